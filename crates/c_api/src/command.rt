@@ -1,0 +1,86 @@
+// The word of the register TCR.
+ghost use mathlib.Core.Path.{_≡_};
+ghost use Rattle.words.specs.Command.{commanded, settingsWord};
+ghost use Rattle.c_api.specs.Host.{orderOf, polarityOf, phaseOf, pcsOf, settings, answered, kept};
+use words::mode::Mode;
+use words::mode::Pcs;
+use words::mode::Phase;
+use words::mode::Polarity;
+use words::order::BitOrder;
+use words::transaction::Transaction;
+use words::transaction::TransactionResult;
+
+pub(crate) fn order_of(lsb: bool) -> BitOrder
+    ensures { λ r. ⌜ r ≡ orderOf lsb ⌝ }
+{
+    if lsb { BitOrder::Lsb } else { BitOrder::Msb }
+}
+
+fn polarity_of(mode: u32) -> Polarity
+    ensures { λ r. ⌜ r ≡ polarityOf mode ⌝ }
+{
+    if mode / 2 % 2 == 0 {
+        Polarity::IdleLow
+    } else {
+        Polarity::IdleHigh
+    }
+}
+
+fn phase_of(mode: u32) -> Phase
+    ensures { λ r. ⌜ r ≡ phaseOf mode ⌝ }
+{
+    if mode % 2 == 0 {
+        Phase::CaptureOnFirstTransition
+    } else {
+        Phase::CaptureOnSecondTransition
+    }
+}
+
+fn pcs_of(pcs: u32) -> Pcs
+    ensures { λ r. ⌜ r ≡ pcsOf pcs ⌝ }
+{
+    let select = pcs % 4;
+    if select == 0 {
+        return Pcs::Pcs0;
+    }
+    if select == 1 {
+        return Pcs::Pcs1;
+    }
+    if select == 2 {
+        return Pcs::Pcs2;
+    }
+    Pcs::Pcs3
+}
+
+#[no_mangle]
+pub extern "C" fn lpspi_command(
+    frame_size: u16,
+    byte_swap: bool,
+    lsb: bool,
+    receive_mask: bool,
+    transmit_mask: bool,
+    continuous: bool,
+    continuing: bool,
+    mode: u32,
+    pcs: u32,
+    word: &mut u32,
+) -> u32
+    ensures { λ r. ⌜ answered r (now (word .exit)) ≡ kept (commanded (settingsWord (settings «byte_swap» lsb «receive_mask» «transmit_mask» continuous continuing mode pcs)) «frame_size») (now (word .entry)) ⌝ }
+{
+    let TransactionResult::Ok(command) = Transaction::new(frame_size) else {
+        return 1;
+    };
+    let polarity = polarity_of(mode);
+    let phase = phase_of(mode);
+    *word = command
+        .with_bit_order(order_of(lsb))
+        .with_mode(Mode { polarity, phase })
+        .with_pcs(pcs_of(pcs))
+        .with_byte_swap(byte_swap)
+        .with_receive_data_mask(receive_mask)
+        .with_transmit_data_mask(transmit_mask)
+        .with_continuous(continuous)
+        .with_continuing(continuing)
+        .as_raw();
+    0
+}

@@ -1,0 +1,367 @@
+-- Whole buffers as words, for every width and both orders.
+-- Assumes nothing.
+use Prim.Native.Nat.{ℕ, zero, suc, _+_, _*_, _-_, _/_, _%_, _^_, _<_, _≤_, min}
+use mathlib.Core.Bool.{Bool, true, false}
+use mathlib.Core.Path.{_≡_, refl, sym, ap, ap₂, _∙_, subst}
+use mathlib.Core.List.{List, [], _∷_, _++_, append-nil, append-assoc}
+use native.Mathlib.Numerals.{add-one, sub-one}
+use native.Mathlib.Omega.{arith}
+use native.Mathlib.Nat.{mul-suc, suc-mul, mul-zero, mul-comm, le-div-iff-mul-le, sub-zero, zero-sub, sub-eq-zero-of-le, zero-min, min-zero, suc-min-suc, suc-sub-suc, lt-div-mul-add}
+use borrow.Author.Tests.{leb-true, leb-false, le-leb, lt-leb}
+use borrow.Rule.Slice.PartMut.{putMid}
+use lib.Dec.{leb}
+use lib.ListN.{length, getD, take, drop, set, length-drop, length-append, drop-of-length-le}
+use lib.Pow.{pow-pos, ones-lt}
+use lib.Seq.{getD-drop, drop-nil, drop-drop, drop-at, take-all}
+use Rattle.words.specs.declared.order.BitOrder.{BitOrder}
+use Rattle.words.specs.declared.order.BitOrder.the-variants.{Msb, Lsb}
+use Rattle.words.specs.Word.{joined, first, pack, unpack, reversed}
+use Rattle.words.specs.Answer.{ok, refused, tooManyNumber}
+use Rattle.words.specs.Buffer.{perWord, dummy, wordCount, countAt, filled, laid, packed, unpackedNumber, given, unpacked, upTo, wordAt, packWords, unpackWords}
+use Rattle.words.proofs.WordLaws.{Elements, pack-lt, pack-last, unpack-pack, pack-unpack, length-unpack}
+
+-- ELEMENTS
+
+-- inside the list the default does not matter
+pub within : (xs : List ℕ) (i d e : ℕ) → i < length xs → getD xs i d ≡ getD xs i e
+within [] i d e h = absurd (omega arith)
+within (x ∷ xs) zero d e h = refl
+within (x ∷ xs) (suc i) d e h = within xs i d e (omega arith)
+
+-- FILLED
+
+pub length-filled : (d n : ℕ) (xs : List ℕ) → length (filled d n xs) ≡ n
+length-filled d zero xs = refl
+length-filled d (suc n) [] = ap suc (length-filled d n [])
+length-filled d (suc n) (x ∷ xs) = ap suc (length-filled d n xs)
+
+pub elements-filled : (k d n : ℕ) (xs : List ℕ) → d < 2 ^ k → Elements k xs → Elements k (filled d n xs)
+elements-filled k d zero xs h b i = pow-pos k
+elements-filled k d (suc n) [] h b zero = h
+elements-filled k d (suc n) [] h b (suc i) = elements-filled k d n [] h b i
+elements-filled k d (suc n) (x ∷ xs) h b zero = b 0
+elements-filled k d (suc n) (x ∷ xs) h b (suc i) = elements-filled k d n xs h (λ j. b (suc j)) i
+
+pub elements-drop : (k n : ℕ) (xs : List ℕ) → Elements k xs → Elements k (drop n xs)
+elements-drop k n xs b i = rw getD-drop (b (n + i))
+
+-- nothing is filled in where there are enough
+pub filled-all : (d : ℕ) (xs : List ℕ) → filled d (length xs) xs ≡ xs
+filled-all d [] = refl
+filled-all d (x ∷ xs) = ap (λ (l : List ℕ). x ∷ l) (filled-all d xs)
+
+filled-last : (d n : ℕ) (xs : List ℕ) → filled d (suc n) xs ≡ filled d n xs ++ (getD xs n d ∷ [])
+filled-last d zero [] = refl
+filled-last d zero (x ∷ xs) = refl
+filled-last d (suc n) [] = ap (λ (l : List ℕ). d ∷ l) (filled-last d n [])
+filled-last d (suc n) (x ∷ xs) = ap (λ (l : List ℕ). x ∷ l) (filled-last d n xs)
+
+-- a word of n elements fits n elements, and grows by one
+pub word-lt : (o : BitOrder) (k d n : ℕ) (xs : List ℕ) → d < 2 ^ k → Elements k xs → pack o k (filled d n xs) < 2 ^ (k * n)
+word-lt o k d n xs h b = subst (λ (m : ℕ). pack o k (filled d n xs) < 2 ^ (k * m)) (length-filled d n xs) (pack-lt o k (filled d n xs) (elements-filled k d n xs h b))
+
+pub word-step : (o : BitOrder) (k d n at x w r : ℕ) (xs : List ℕ) → x ≡ getD xs (at + n) d → w ≡ pack o k (filled d n (drop at xs))
+    → r ≡ joined (reversed o) k n x w → r ≡ pack o k (filled d (n + 1) (drop at xs))
+word-step o k d n at x w r xs ex ew er =
+    let ys = drop at xs in
+    er
+    ∙ ap₂ (joined (reversed o) k n) (ex ∙ sym (getD-drop at xs n d)) ew
+    ∙ ap (λ (m : ℕ). joined (reversed o) k m (getD ys n d) (pack o k (filled d n ys))) (sym (length-filled d n ys))
+    ∙ sym (pack-last o k (filled d n ys) (getD ys n d))
+    ∙ ap (pack o k) (sym (filled-last d n ys))
+    ∙ ap (λ (m : ℕ). pack o k (filled d m ys)) (sym (add-one n))
+
+-- width 32: the word is the element, in both orders
+pub word-one : (o : BitOrder) (x : ℕ) → pack o 32 (x ∷ []) ≡ x
+word-one Msb x = omega arith
+word-one Lsb x = omega arith
+
+pub word-none : (o : BitOrder) (k : ℕ) (xs : List ℕ) → length xs ≡ 0 → 0 ≡ pack o k xs
+word-none o k [] h = refl
+word-none o k (x ∷ xs) h = absurd (omega arith)
+
+pub word-single : (o : BitOrder) (xs : List ℕ) → length xs ≤ 1 → (length xs ≡ 0 → ⊥) → getD xs 0 0 ≡ pack o 32 xs
+word-single o [] h n = absurd (n refl)
+word-single o (x ∷ []) h n = sym (word-one o x)
+word-single o (x ∷ (y ∷ ys)) h n = absurd (omega arith)
+
+first-one : (o : BitOrder) (w : ℕ) → w < 2 ^ 32 → first o 32 0 w ≡ w
+first-one Msb w h = omega arith
+first-one Lsb w h = omega arith
+
+-- the first p elements, and the others
+filled-split : (d n p : ℕ) (xs : List ℕ) → filled d n xs ≡ filled d (min p n) xs ++ filled d (n - p) (drop p xs)
+filled-split d n zero xs = rw (zero-min n, sub-zero n)
+filled-split d zero (suc p) xs = rw (min-zero, zero-sub)
+filled-split d (suc n) (suc p) [] =
+    rw (suc-min-suc p n, suc-sub-suc n p) (ap (λ (l : List ℕ). d ∷ l) (filled-split d n p [] ∙ ap (λ (l : List ℕ). filled d (min p n) [] ++ filled d (n - p) l) (drop-nil p)))
+filled-split d (suc n) (suc p) (x ∷ xs) =
+    rw (suc-min-suc p n, suc-sub-suc n p) (ap (λ (l : List ℕ). x ∷ l) (filled-split d n p xs))
+
+-- a front of the right length is all that is filled
+filled-front : (d : ℕ) (xs ys : List ℕ) → filled d (length xs) (xs ++ ys) ≡ xs
+filled-front d [] ys = refl
+filled-front d (x ∷ xs) ys = ap (λ (l : List ℕ). x ∷ l) (filled-front d xs ys)
+
+-- LAID
+
+pub length-laid : (xs bs : List ℕ) → length (laid xs bs) ≡ length bs
+length-laid [] bs = refl
+length-laid (x ∷ xs) [] = refl
+length-laid (x ∷ xs) (b ∷ bs) = ap suc (length-laid xs bs)
+
+laid-nothing : (xs : List ℕ) → laid xs [] ≡ []
+laid-nothing [] = refl
+laid-nothing (x ∷ xs) = refl
+
+pub laid-full : (xs bs : List ℕ) → length bs ≡ 0 → bs ≡ laid xs bs
+laid-full xs [] h = sym (laid-nothing xs)
+laid-full xs (b ∷ bs) h = absurd (omega arith)
+
+pub laid-one : (o : BitOrder) (w : ℕ) (bs : List ℕ) → w < 2 ^ 32 → 0 < length bs → set bs 0 w ≡ laid (unpack o 32 1 w) bs
+laid-one o w [] h n = absurd (omega arith)
+laid-one o w (b ∷ bs) h n = ap (λ (x : ℕ). x ∷ bs) (sym (first-one o w h))
+
+-- what has no room is dropped
+pub laid-dropped : (xs ys bs : List ℕ) → length bs ≤ length xs → laid (xs ++ ys) bs ≡ laid xs bs
+laid-dropped [] ys [] h = laid-nothing ys
+laid-dropped [] ys (b ∷ bs) h = absurd (omega arith)
+laid-dropped (x ∷ xs) ys [] h = refl
+laid-dropped (x ∷ xs) ys (b ∷ bs) h = ap (λ (l : List ℕ). x ∷ l) (laid-dropped xs ys bs (omega arith))
+
+-- elements after elements: those that come second go where the first end
+pub laid-append : (xs ys bs : List ℕ) → laid (xs ++ ys) bs ≡ take (length xs) (laid xs bs) ++ laid ys (drop (length xs) (laid xs bs))
+laid-append [] ys bs = refl
+laid-append (x ∷ xs) ys [] = sym (laid-nothing ys)
+laid-append (x ∷ xs) ys (b ∷ bs) = ap (λ (l : List ℕ). x ∷ l) (laid-append xs ys bs)
+
+-- THE LOOP that stores f 0, f 1, .. from the front on, and stops at the end of the list or of the buffer
+
+laid-store : (n : ℕ) (f : ℕ → ℕ) (bs : List ℕ) → n < length bs → set (laid (upTo n f) bs) n (f n) ≡ laid (upTo (suc n) f) bs
+laid-store n f [] h = absurd (omega arith)
+laid-store zero f (b ∷ bs) h = refl
+laid-store (suc n) f (b ∷ bs) h = ap (λ (l : List ℕ). f 0 ∷ l) (laid-store n (λ i. f (suc i)) bs (omega arith))
+
+pub store-step : (n x : ℕ) (f : ℕ → ℕ) (bs ws : List ℕ) → n < length bs → x ≡ f n → ws ≡ laid (upTo n f) bs → set ws n x ≡ laid (upTo (n + 1) f) bs
+store-step n x f bs ws h ex ew =
+    ap₂ (λ (l : List ℕ) (y : ℕ). set l n y) ew ex ∙ laid-store n f bs h ∙ ap (λ (m : ℕ). laid (upTo m f) bs) (sym (add-one n))
+
+laid-stop : (n m : ℕ) (f : ℕ → ℕ) (bs : List ℕ) → n ≤ m → (n < m → length bs ≤ n) → laid (upTo n f) bs ≡ laid (upTo m f) bs
+laid-stop zero zero f bs h s = refl
+laid-stop zero (suc m) f [] h s = refl
+laid-stop zero (suc m) f (b ∷ bs) h s = let l = s (omega arith) in absurd (omega arith)
+laid-stop (suc n) zero f bs h s = absurd (omega arith)
+laid-stop (suc n) (suc m) f [] h s = refl
+laid-stop (suc n) (suc m) f (b ∷ bs) h s =
+    ap (λ (l : List ℕ). f 0 ∷ l) (laid-stop n m (λ i. f (suc i)) bs (omega arith) (λ (l : n < m). let t = s (omega arith) in omega arith))
+
+upTo-same : (n : ℕ) (f g : ℕ → ℕ) → ((i : ℕ) → i < n → f i ≡ g i) → upTo n f ≡ upTo n g
+upTo-same zero f g h = refl
+upTo-same (suc n) f g h = ap₂ (λ (x : ℕ) (l : List ℕ). x ∷ l) (h 0 (omega arith)) (upTo-same n (λ i. f (suc i)) (λ i. g (suc i)) (λ i l. h (suc i) (omega arith)))
+
+pub store-stop : (n m : ℕ) (f g : ℕ → ℕ) (bs ws : List ℕ) → n ≤ m → (n < m → length bs ≤ n) → ((i : ℕ) → i < m → f i ≡ g i)
+    → ws ≡ laid (upTo n f) bs → ws ≡ laid (upTo m g) bs
+store-stop n m f g bs ws h s e ew = ew ∙ laid-stop n m f bs h s ∙ ap (λ (l : List ℕ). laid l bs) (upTo-same m f g e)
+
+-- a part of a buffer that comes back with elements laid over it
+put-laid : (at : ℕ) (bs xs ys : List ℕ) → ys ≡ laid xs (take (length bs - at) (drop at bs)) → putMid at (length bs - at) bs ys ≡ take at bs ++ laid xs (drop at bs)
+put-laid at bs xs ys e =
+    let gone : drop (length bs - at) (drop at bs) ≡ [] = drop-of-length-le (drop at bs) {i = length bs - at} (omega (arith, length-drop at bs)) in
+    let whole : take (length bs - at) (drop at bs) ≡ drop at bs = take-all (length bs - at) (drop at bs) (omega (arith, length-drop at bs)) in
+    ap (λ (l : List ℕ). take at bs ++ l) (ap (λ (l : List ℕ). ys ++ l) gone ∙ append-nil ys ∙ e ∙ ap (laid xs) whole)
+
+-- UNPACKING WORDS
+
+-- nothing is left of a total of 0
+unpack-nothing : (o : BitOrder) (k : ℕ) (ws : List ℕ) → unpackWords o k 0 ws ≡ []
+unpack-nothing o k [] = refl
+unpack-nothing o k (w ∷ ws) = rw (min-zero, zero-sub) (unpack-nothing o k ws)
+
+-- the total that is left after n + 1 words
+left-suc : (k total n : ℕ) → total - perWord k * suc n ≡ total - perWord k - perWord k * n
+left-suc k total n = omega (arith, mul-suc (perWord k) n)
+
+-- the first n words, and the others
+unpack-split : (o : BitOrder) (k total n : ℕ) (ws : List ℕ) → unpackWords o k total ws ≡ unpackWords o k total (take n ws) ++ unpackWords o k (total - perWord k * n) (drop n ws)
+unpack-split o k total zero ws = rw (mul-zero (perWord k), sub-zero total)
+unpack-split o k total (suc n) [] = refl
+unpack-split o k total (suc n) (w ∷ ws) =
+    let here = unpack o k (min (perWord k) total) w in
+    rw (left-suc k total n)
+    (ap (λ (l : List ℕ). here ++ l) (unpack-split o k (total - perWord k) n ws)
+    ∙ sym (append-assoc here (unpackWords o k (total - perWord k) (take n ws)) (unpackWords o k (total - perWord k - perWord k * n) (drop n ws))))
+
+-- one word more
+unpack-last : (o : BitOrder) (k total i : ℕ) (ws : List ℕ) → i < length ws
+    → unpackWords o k total (take (suc i) ws) ≡ unpackWords o k total (take i ws) ++ unpack o k (countAt k total i) (getD ws i 0)
+unpack-last o k total i [] h = absurd (omega arith)
+unpack-last o k total zero (w ∷ ws) h = rw (mul-zero (perWord k), sub-zero total) (append-nil (unpack o k (min (perWord k) total) w))
+unpack-last o k total (suc i) (w ∷ ws) h =
+    let here = unpack o k (min (perWord k) total) w in
+    rw (left-suc k total i)
+    (ap (λ (l : List ℕ). here ++ l) (unpack-last o k (total - perWord k) i ws (omega arith))
+    ∙ sym (append-assoc here (unpackWords o k (total - perWord k) (take i ws)) (unpack o k (countAt k (total - perWord k) i) (getD ws i 0))))
+
+unpack-length : (o : BitOrder) (k total n : ℕ) (ws : List ℕ) → n ≤ length ws → perWord k * n ≤ total → length (unpackWords o k total (take n ws)) ≡ perWord k * n
+unpack-length o k total zero ws h l = sym (mul-zero (perWord k))
+unpack-length o k total (suc n) [] h l = absurd (omega arith)
+unpack-length o k total (suc n) (w ∷ ws) h l =
+    let m = mul-suc (perWord k) n in
+    length-append (unpack o k (min (perWord k) total) w) (unpackWords o k (total - perWord k) (take n ws))
+    ∙ ap₂ (λ (a b : ℕ). a + b) (length-unpack o k (min (perWord k) total) w) (unpack-length o k (total - perWord k) n ws (omega arith) (omega arith))
+    ∙ omega arith
+
+-- COUNTS OF WORDS
+
+enough-words : (k total : ℕ) → 0 < perWord k → total ≤ perWord k * wordCount k total
+enough-words k total h = omega (arith, lt-div-mul-add {a = total + (perWord k - 1)} {b = perWord k} h, mul-comm (perWord k) (wordCount k total))
+
+no-word-more : (k i n : ℕ) → 0 < perWord k → i < wordCount k n → perWord k * i < n
+no-word-more k i n h l =
+    let m : suc i * perWord k ≤ n + (perWord k - 1) = le-div-iff-mul-le h .0 l in
+    omega (arith, suc-mul i (perWord k), mul-comm (perWord k) i)
+
+-- the loop over n words, those received or those that total and buffer have places for: at word i, and at the end
+pub words-inside : (k i n c e total len size : ℕ) → 0 < perWord k → i < n → n ≡ min len c → c ≡ wordCount k e → e ≡ min total size → (i < len) × (perWord k * i ≤ total)
+words-inside k i n c e total len size h l en ec ee = let m = no-word-more k i e h (omega arith) in (omega arith, omega arith)
+
+pub words-end : (k i n c e total len size : ℕ) → 0 < perWord k → i ≡ n → n ≡ min len c → c ≡ wordCount k e → e ≡ min total size
+    → (i ≤ len) × (i < len → min total size ≤ perWord k * i)
+words-end k i n c e total len size h ei en ec ee = (omega arith, λ (l : i < len). let s : i ≡ wordCount k e = omega arith in rw (← ee, s) (enough-words k e h))
+
+-- ONE WORD, with the number
+
+pub packed-few : (o : BitOrder) (k w : ℕ) (xs : List ℕ) → length xs ≤ perWord k → w ≡ pack o k xs → ok w ≡ packed o k xs
+packed-few o k w xs h e = simp (le-leb (length xs) (perWord k) h, e)
+
+pub packed-many : (o : BitOrder) (k : ℕ) (xs : List ℕ) → perWord k < length xs → refused tooManyNumber ≡ packed o k xs
+packed-many o k xs h = simp (lt-leb (length xs) (perWord k) h)
+
+-- a number and a buffer, as the contracts of unpacking have them
+abbrev Unpacked : BitOrder → ℕ → ℕ → ℕ → List ℕ → ℕ → List ℕ → Type 0
+Unpacked o k c w bs n ys = (n ≡ unpackedNumber k c) × (ys ≡ unpacked o k c w bs)
+
+pub unpacked-many : (o : BitOrder) (k c w : ℕ) (bs : List ℕ) → perWord k < c → Unpacked o k c w bs tooManyNumber bs
+unpacked-many o k c w bs h = let e = lt-leb c (perWord k) h in (simp e, simp e)
+
+pub unpacked-few : (o : BitOrder) (k c n w : ℕ) (bs ys : List ℕ) → c ≤ perWord k → given k c ≡ n → ys ≡ laid (unpack o k n w) bs → Unpacked o k c w bs 0 ys
+unpacked-few o k c n w bs ys h en ey = let e = le-leb c (perWord k) h in (simp e, ey ∙ ap (λ (m : ℕ). laid (unpack o k m w) bs) (sym en) ∙ simp e)
+
+-- THE LOOP: it lays word i at its place, and may stop where total or buffer end
+pub unpack-step : (o : BitOrder) (k total i at c w : ℕ) (ws bs out ys : List ℕ) → i < length ws → perWord k * i ≤ total
+    → at ≡ perWord k * i → c ≡ countAt k total i → w ≡ getD ws i 0
+    → out ≡ laid (unpackWords o k total (take i ws)) bs
+    → ys ≡ laid (unpack o k c w) (take (length out - at) (drop at out))
+    → putMid at (length out - at) out ys ≡ laid (unpackWords o k total (take (i + 1) ws)) bs
+unpack-step o k total i at c w ws bs out ys hi ht ea ec ew eo ey =
+    let n : length (unpackWords o k total (take i ws)) ≡ at = unpack-length o k total i ws (omega arith) ht ∙ sym ea in
+    put-laid at out (unpack o k c w) ys ey
+    ∙ ap₂ (λ (l : List ℕ) (m : ℕ). take m l ++ laid (unpack o k c w) (drop m l)) eo (sym n)
+    ∙ sym (laid-append (unpackWords o k total (take i ws)) (unpack o k c w) bs)
+    ∙ ap (λ (l : List ℕ). laid (unpackWords o k total (take i ws) ++ l) bs) (ap₂ (unpack o k) ec ew)
+    ∙ ap (λ (l : List ℕ). laid l bs) (sym (unpack-last o k total i ws hi))
+    ∙ ap (λ (m : ℕ). laid (unpackWords o k total (take m ws)) bs) (sym (add-one i))
+
+by-order : {P : Type 0} (m n : ℕ) → (m ≤ n → P) → (n < m → P) → P
+by-order {P} m n f g = decide (leb m n) refl
+  where
+    decide : (b : Bool) → leb m n ≡ b → P
+    decide true e = f (leb-true m n e)
+    decide false e = g (leb-false m n e)
+
+pub unpack-stop : (o : BitOrder) (k total n : ℕ) (ws bs : List ℕ) → n ≤ length ws → (n < length ws → min total (length bs) ≤ perWord k * n)
+    → laid (unpackWords o k total (take n ws)) bs ≡ laid (unpackWords o k total ws) bs
+unpack-stop o k total n ws bs h s =
+    by-order (length ws) n
+    (λ l. ap (λ (x : List ℕ). laid (unpackWords o k total x) bs) (take-all n ws l))
+    (λ l. by-order total (perWord k * n)
+      (λ t. ap (λ (x : List ℕ). laid x bs) (sym (split ∙ ap (λ (x : List ℕ). front ++ x) (ap (λ (m : ℕ). unpackWords o k m (drop n ws)) (sub-eq-zero-of-le t) ∙ unpack-nothing o k (drop n ws)) ∙ append-nil front)))
+      (λ (t : perWord k * n < total).
+        let m = s l in
+        sym (ap (λ (x : List ℕ). laid x bs) split ∙ laid-dropped front (unpackWords o k (total - perWord k * n) (drop n ws)) bs (omega (arith, unpack-length o k total n ws h (omega arith))))))
+  where
+    front : List ℕ
+    front = unpackWords o k total (take n ws)
+
+    split : unpackWords o k total ws ≡ front ++ unpackWords o k (total - perWord k * n) (drop n ws)
+    split = unpack-split o k total n ws
+
+-- width 32: word i is element i
+pub word-32 : (o : BitOrder) (total i : ℕ) (xs : List ℕ) → i < total → getD xs i (dummy 32) ≡ wordAt o 32 total xs i
+word-32 o total i xs h =
+    let one : countAt 32 total i ≡ 1 = omega arith in
+    let at : 1 * i ≡ i = omega arith in
+    sym (ap (λ (n : ℕ). pack o 32 (filled (dummy 32) n (drop (1 * i) xs))) one
+    ∙ ap (pack o 32) (filled-last (dummy 32) 0 (drop (1 * i) xs)) ∙ word-one o (getD (drop (1 * i) xs) 0 (dummy 32))
+    ∙ getD-drop (1 * i) xs 0 (dummy 32) ∙ ap (λ (n : ℕ). getD xs n (dummy 32)) (omega arith))
+
+-- and the elements are the words
+pub unpack-32 : (o : BitOrder) (total : ℕ) (ws : List ℕ) → Elements 32 ws → unpackWords o 32 total ws ≡ upTo (min total (length ws)) (λ (i : ℕ). getD ws i 0)
+unpack-32 o total [] b = rw (min-zero total)
+unpack-32 o zero (w ∷ ws) b = rw (zero-min (suc (length ws))) (unpack-nothing o 32 (w ∷ ws))
+unpack-32 o (suc total) (w ∷ ws) b =
+    let one : min 1 (suc total) ≡ 1 = omega arith in
+    rw (one, sub-one (suc total), suc-min-suc total (length ws), first-one o w (b 0)) (ap (λ (l : List ℕ). w ∷ l) (unpack-32 o total ws (λ i. b (suc i))))
+
+-- THERE AND BACK
+
+word-suc : (o : BitOrder) (k total i : ℕ) (xs : List ℕ) → wordAt o k total xs (suc i) ≡ wordAt o k (total - perWord k) (drop (perWord k) xs) i
+word-suc o k total i xs =
+    let p : perWord k * suc i ≡ perWord k + perWord k * i = omega (arith, mul-suc (perWord k) i) in
+    rw (left-suc k total i, p, drop-drop)
+
+unpack-packed : (o : BitOrder) (k m total : ℕ) (xs : List ℕ) → Elements k xs → total ≤ perWord k * m
+    → unpackWords o k total (upTo m (wordAt o k total xs)) ≡ filled (dummy k) total xs
+unpack-packed o k zero zero xs b h = refl
+unpack-packed o k zero (suc total) xs b h = absurd (omega (arith, mul-zero (perWord k)))
+unpack-packed o k (suc m) total xs b h =
+    let c = min (perWord k) total in
+    let word : wordAt o k total xs 0 ≡ pack o k (filled (dummy k) c xs) = rw (mul-zero (perWord k), sub-zero total) in
+    let here : unpack o k c (pack o k (filled (dummy k) c xs)) ≡ filled (dummy k) c xs =
+        subst (λ (n : ℕ). unpack o k n (pack o k (filled (dummy k) c xs)) ≡ filled (dummy k) c xs) (length-filled (dummy k) c xs)
+        (unpack-pack o k (filled (dummy k) c xs) (elements-filled k (dummy k) c xs (ones-lt k) b)) in
+    let there = unpack-packed o k m (total - perWord k) (drop (perWord k) xs) (elements-drop k (perWord k) xs b) (omega (arith, mul-suc (perWord k) m)) in
+    ap₂ (λ (a l : List ℕ). a ++ l) (ap (unpack o k c) word ∙ here)
+    (ap (unpackWords o k (total - perWord k)) (upTo-same m (λ i. wordAt o k total xs (suc i)) (wordAt o k (total - perWord k) (drop (perWord k) xs)) (λ i l. word-suc o k total i xs)) ∙ there)
+    ∙ sym (filled-split (dummy k) total (perWord k) xs)
+
+-- what was packed is unpacked as the elements of the transfer: those of xs, and dummies
+pub unpack-pack-words : (o : BitOrder) (k total : ℕ) (xs : List ℕ) → 0 < perWord k → Elements k xs
+    → unpackWords o k total (packWords o k total xs) ≡ filled (dummy k) total xs
+unpack-pack-words o k total xs h b = unpack-packed o k (wordCount k total) total xs b (enough-words k total h)
+
+-- the words after the first
+drop-unpacked : (o : BitOrder) (k total w : ℕ) (ws : List ℕ) → drop (perWord k) (unpackWords o k total (w ∷ ws)) ≡ unpackWords o k (total - perWord k) ws
+drop-unpacked o k total w ws =
+    by-order (perWord k) total
+    (λ (l : perWord k ≤ total). drop-at here later (perWord k) (length-unpack o k (min (perWord k) total) w ∙ omega arith))
+    (λ (l : total < perWord k).
+      let none : later ≡ [] = ap (λ (m : ℕ). unpackWords o k m ws) (sub-eq-zero-of-le {n = total} {m = perWord k} (omega arith)) ∙ unpack-nothing o k ws in
+      ap (λ (x : List ℕ). drop (perWord k) (here ++ x)) none ∙ drop-of-length-le (here ++ []) {i = perWord k} (omega (arith, length-append here [], length-unpack o k (min (perWord k) total) w)) ∙ sym none)
+  where
+    here : List ℕ
+    here = unpack o k (min (perWord k) total) w
+
+    later : List ℕ
+    later = unpackWords o k (total - perWord k) ws
+
+-- word i of what was unpacked is word i with the places above its elements zero
+pub word-unpacked : (o : BitOrder) (k total i : ℕ) (ws : List ℕ) → i < length ws
+    → wordAt o k total (unpackWords o k total ws) i ≡ getD ws i 0 % 2 ^ (k * countAt k total i)
+word-unpacked o k total i [] h = absurd (omega arith)
+word-unpacked o k total zero (w ∷ ws) h =
+    let c = min (perWord k) total in
+    let front : filled (dummy k) c (unpack o k c w ++ unpackWords o k (total - perWord k) ws) ≡ unpack o k c w =
+        subst (λ (n : ℕ). filled (dummy k) n (unpack o k c w ++ unpackWords o k (total - perWord k) ws) ≡ unpack o k c w) (length-unpack o k c w)
+        (filled-front (dummy k) (unpack o k c w) (unpackWords o k (total - perWord k) ws)) in
+    rw (mul-zero (perWord k), sub-zero total) (ap (pack o k) front ∙ pack-unpack o k c w)
+word-unpacked o k total (suc i) (w ∷ ws) h =
+    word-suc o k total i (unpackWords o k total (w ∷ ws))
+    ∙ ap (λ (xs : List ℕ). wordAt o k (total - perWord k) xs i) (drop-unpacked o k total w ws)
+    ∙ word-unpacked o k (total - perWord k) i ws (omega arith)
+    ∙ ap (λ (n : ℕ). getD ws i 0 % 2 ^ (k * min (perWord k) n)) (sym (left-suc k total i))
+
+-- what was unpacked is packed as the same words, the places above their elements zero
+pub pack-unpack-words : (o : BitOrder) (k total : ℕ) (ws : List ℕ) → wordCount k total ≤ length ws
+    → packWords o k total (unpackWords o k total ws) ≡ upTo (wordCount k total) (λ i. getD ws i 0 % 2 ^ (k * countAt k total i))
+pack-unpack-words o k total ws h = upTo-same (wordCount k total) (wordAt o k total (unpackWords o k total ws)) (λ i. getD ws i 0 % 2 ^ (k * countAt k total i)) (λ i (l : i < wordCount k total). word-unpacked o k total i ws (omega arith))

@@ -1,0 +1,56 @@
+-- The clock word reads back as what was asked; and SCK, source / (SCKDIV + 2), is at most the wanted clock exactly when the source is at
+-- most 256 times that clock. SCK is compared by a product, source ≤ clock × (SCKDIV + 2), so that no rounding of the quotient enters.
+-- Assumes nothing.
+use Prim.Native.Nat.{ℕ, _+_, _*_, _-_, _/_, _<_, _≤_}
+use mathlib.Core.List.{List, [], _∷_}
+use mathlib.Core.Logic.{_↔_}
+use mathlib.Core.Path.{_≡_, ap, sym, _∙_}
+use native.Mathlib.Nat.{mod-eq-of-lt, mul-le-mul-left, le-trans, div-lt-iff-lt-mul, lt-div-mul-add, mul-comm, mul-assoc, mul-add, mul-left-comm}
+use native.Mathlib.Omega.{arith}
+use Rattle.manual.specs.declared.Ccr.the-variants.{SCKDIV, DBT, PCSSCK, SCKPCS}
+use Rattle.manual.specs.declared.Field.the-variants.{Ccr}
+use Rattle.manual.specs.Manual.{readField}
+use Rattle.manual.proofs.ManualLaws.{Setting, read-all}
+use Rattle.words.specs.declared.clock.ClockConfigs.{ClockConfigs}
+use Rattle.words.specs.Clock.{halfDivider, configs, clockWord}
+
+-- the four fields of CCR in a word
+pub record Reads (w : ℕ) (c : ClockConfigs) : Type 0 where
+  pub sckdiv : readField (Ccr SCKDIV) w ≡ c .sckdiv
+  pub dbt : readField (Ccr DBT) w ≡ c .dbt
+  pub pcssck : readField (Ccr PCSSCK) w ≡ c .pcssck
+  pub sckpcs : readField (Ccr SCKPCS) w ≡ c .sckpcs
+
+settings : ClockConfigs → List Setting
+settings c = (Ccr SCKPCS, c .sckpcs) ∷ (Ccr PCSSCK, c .pcssck) ∷ (Ccr DBT, c .dbt) ∷ (Ccr SCKDIV, c .sckdiv) ∷ []
+
+-- READ BACK, of any four bytes
+pub clock-reads : (c : ClockConfigs) → c .sckpcs < 256 → c .pcssck < 256 → c .dbt < 256 → c .sckdiv < 256 → Reads (clockWord c) c
+unfolding settings
+clock-reads c hs hp hd hv = record {
+  sckdiv = read-all (Ccr SCKDIV) (settings c) 0 tt ∙ mod-eq-of-lt hv;
+  dbt = read-all (Ccr DBT) (settings c) 0 tt ∙ mod-eq-of-lt hd;
+  pcssck = read-all (Ccr PCSSCK) (settings c) 0 tt ∙ mod-eq-of-lt hp;
+  sckpcs = read-all (Ccr SCKPCS) (settings c) 0 tt ∙ mod-eq-of-lt hs;
+}
+
+-- of the clock that is computed: SCKDIV = 2(h − 1), the others h − 1
+pub computed-reads : (source clock : ℕ) → Reads (clockWord (configs (halfDivider source clock))) (configs (halfDivider source clock))
+computed-reads source clock = clock-reads (configs (halfDivider source clock)) (omega arith) (omega arith) (omega arith) (omega arith)
+
+-- SCK AT MOST THE WANTED CLOCK, exactly when source ≤ 256 × clock
+pub sck-at-most : (source clock : ℕ) → 0 < source → 0 < clock
+    → (source ≤ clock * (readField (Ccr SCKDIV) (clockWord (configs (halfDivider source clock))) + 2)) ↔ (source ≤ 256 * clock)
+sck-at-most s c hs hc = (λ h. to (rw (computed-reads s c .sckdiv) at h), λ h. rw (computed-reads s c .sckdiv) (from h))
+  where
+    to : s ≤ c * (2 * (halfDivider s c - 1) + 2) → s ≤ 256 * c
+    to h = rw mul-comm (le-trans h (mul-le-mul-left c (omega arith)))
+
+    -- the quotient that is not clamped, and the source that it covers
+    covers : (q : ℕ) → s - 1 < q * (2 * c) + 2 * c → s ≤ c * (2 * q + 2)
+    covers q h = omega (arith, mul-comm q (2 * c), mul-assoc 2 c q, mul-add c (2 * q) 2, mul-left-comm c 2 q)
+
+    from : s ≤ 256 * c → s ≤ c * (2 * (halfDivider s c - 1) + 2)
+    from h =
+        let small : (s - 1) / (2 * c) < 128 = div-lt-iff-lt-mul {k = 2 * c} (omega arith) .1 (omega arith) in
+        le-trans (covers ((s - 1) / (2 * c)) (lt-div-mul-add (omega arith))) (mul-le-mul-left c (omega arith))

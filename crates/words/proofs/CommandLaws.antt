@@ -1,0 +1,126 @@
+-- Frame sizes that are accepted and those that are not; and a command reads back, field by field, as what was asked.
+-- Assumes nothing.
+use Prim.Native.Nat.{ℕ, _-_, _%_, _<_, _≤_}
+use mathlib.Core.Bool.{Bool, true, false, cond, not, _&&_}
+use mathlib.Core.Path.{_≡_, refl, sym, ap, _∙_}
+use native.Mathlib.Omega.{arith}
+use borrow.Author.Tests.{leb-true, lt-leb}
+use lib.Dec.{leb, eqb, lit<}
+use mathlib.Core.List.{List, [], _∷_}
+use native.Mathlib.Nat.{mod-eq-of-lt}
+use Rattle.manual.specs.declared.Tcr.the-variants.{FRAMESZ, TXMSK, RXMSK, CONTC, CONT, BYSW, LSBF, PCS, CPHA, CPOL}
+use Rattle.manual.specs.declared.Field.the-variants.{Tcr}
+use Rattle.manual.specs.Manual.{readField, setField}
+use Rattle.manual.proofs.ManualLaws.{Setting, read-all}
+use Rattle.words.specs.declared.order.BitOrder.{BitOrder}
+use Rattle.words.specs.declared.order.BitOrder.the-variants.{Msb, Lsb}
+use Rattle.words.specs.declared.mode.Polarity.{Polarity}
+use Rattle.words.specs.declared.mode.Polarity.the-variants.{IdleLow, IdleHigh}
+use Rattle.words.specs.declared.mode.Phase.{Phase}
+use Rattle.words.specs.declared.mode.Phase.the-variants.{CaptureOnFirstTransition, CaptureOnSecondTransition}
+use Rattle.words.specs.declared.mode.Pcs.{Pcs}
+use Rattle.words.specs.declared.mode.Pcs.the-variants.{Pcs0, Pcs1, Pcs2, Pcs3}
+use Rattle.words.specs.declared.transaction.Direction.the-variants.{Tx, Rx}
+use Rattle.words.specs.declared.transaction.LpspiError.{LpspiError}
+use Rattle.words.specs.declared.transaction.LpspiError.the-variants.{FrameSize, Fifo}
+use Rattle.words.specs.declared.transaction.Transaction.{Transaction}
+use Rattle.words.specs.declared.transaction.TransactionResult.the-variants.{Ok, Err}
+use Rattle.words.specs.Answer.{Answer, ok, refused, frameSizeNumber}
+use Rattle.words.specs.Command.{frameAccepted, framed, errorNumber, commandAnswer, flagOf, orderOf, pcsOf, phaseOf, polarityOf, Settings, settingsWord}
+
+all-three : (a b c : Bool) → (a && b && c) ≡ true → (a ≡ true) × (b ≡ true)
+all-three true true c h = (refl, refl)
+all-three true false c h = (refl, h)
+all-three false b c h = (h, cc)
+
+pub accepted-between : (f : ℕ) → frameAccepted f ≡ true → (8 ≤ f) × (f ≤ 4096)
+accepted-between f h = let p = all-three (leb 8 f) (leb f 4096) (not (eqb (f % 32) 1)) h in (leb-true 8 f (p .0), leb-true f 4096 (p .1))
+
+pub framed-accepted : (f : ℕ) → frameAccepted f ≡ true → ok (f - 1) ≡ framed f
+framed-accepted f h = let b = accepted-between f h in rw h (ap ok (omega arith))
+
+pub framed-refused : (f : ℕ) → frameAccepted f ≡ false → refused frameSizeNumber ≡ framed f
+framed-refused f h = rw h
+
+pub framed-long : (f : ℕ) → 4096 < f → refused frameSizeNumber ≡ framed f
+framed-long f h = framed-refused f (none (leb 8 f) (leb f 4096) (not (eqb (f % 32) 1)) (lt-leb f 4096 h))
+  where
+    none : (a b c : Bool) → b ≡ false → (a && b && c) ≡ false
+    none true false c e = refl
+    none true true c e = cc
+    none false b c e = refl
+
+-- an answer taken apart, as `let .. else` does: the command and its word, or no command
+pub accepted-word : (f : ℕ) (t : Transaction) → commandAnswer (Ok t) ≡ framed f → (frameAccepted f ≡ true) × (t .0 ≡ setField (Tcr FRAMESZ) (f - 1) 0)
+accepted-word f t h = by-test (frameAccepted f) h
+  where
+    by-test : (b : Bool) → ok (t .0) ≡ cond b (ok (setField (Tcr FRAMESZ) (f - 1) 0)) (refused frameSizeNumber) → (b ≡ true) × (t .0 ≡ setField (Tcr FRAMESZ) (f - 1) 0)
+    by-test true e = (refl, ap (λ (a : Answer). a .value) e)
+    by-test false e = let z : _≡_ {A = ℕ} 0 1 = ap (λ (a : Answer). a .number) e in absurd (omega arith)
+
+pub refused-size : (f : ℕ) (e : LpspiError) → commandAnswer (Err e) ≡ framed f → frameAccepted f ≡ false
+refused-size f e h = by-test (frameAccepted f) (some e) (ap (λ (a : Answer). a .number) h)
+  where
+    some : (e : LpspiError) → 0 < errorNumber e
+    some FrameSize = lit< tt
+    some (Fifo Rx) = lit< tt
+    some (Fifo Tx) = lit< tt
+
+    by-test : (b : Bool) {n : ℕ} → 0 < n → n ≡ cond b (ok (setField (Tcr FRAMESZ) (f - 1) 0)) (refused frameSizeNumber) .number → b ≡ false
+    by-test true h e = absurd (omega arith)
+    by-test false h e = refl
+
+-- the ten fields of TCR in a word: the settings, and f bits a frame
+pub record Reads (w : ℕ) (s : Settings) (f : ℕ) : Type 0 where
+  pub frameSize : readField (Tcr FRAMESZ) w ≡ f - 1
+  pub transmitMask : readField (Tcr TXMSK) w ≡ flagOf (s .transmitMask)
+  pub receiveMask : readField (Tcr RXMSK) w ≡ flagOf (s .receiveMask)
+  pub continuing : readField (Tcr CONTC) w ≡ flagOf (s .continuing)
+  pub continuous : readField (Tcr CONT) w ≡ flagOf (s .continuous)
+  pub byteSwap : readField (Tcr BYSW) w ≡ flagOf (s .byteSwap)
+  pub order : readField (Tcr LSBF) w ≡ orderOf (s .order)
+  pub pcs : readField (Tcr PCS) w ≡ pcsOf (s .pcs)
+  pub phase : readField (Tcr CPHA) w ≡ phaseOf (s .mode .phase)
+  pub polarity : readField (Tcr CPOL) w ≡ polarityOf (s .mode .polarity)
+
+flag-lt : (b : Bool) → flagOf b % 2 ≡ flagOf b
+flag-lt true = refl
+flag-lt false = refl
+
+order-lt : (o : BitOrder) → orderOf o % 2 ≡ orderOf o
+order-lt Msb = refl
+order-lt Lsb = refl
+
+pcs-lt : (p : Pcs) → pcsOf p % 4 ≡ pcsOf p
+pcs-lt Pcs0 = refl
+pcs-lt Pcs1 = refl
+pcs-lt Pcs2 = refl
+pcs-lt Pcs3 = refl
+
+phase-lt : (p : Phase) → phaseOf p % 2 ≡ phaseOf p
+phase-lt CaptureOnFirstTransition = refl
+phase-lt CaptureOnSecondTransition = refl
+
+polarity-lt : (p : Polarity) → polarityOf p % 2 ≡ polarityOf p
+polarity-lt IdleLow = refl
+polarity-lt IdleHigh = refl
+
+-- READ BACK: every field of an accepted command
+module _ (s : Settings) (f : ℕ) (h : frameAccepted f ≡ true) where
+  settings : List Setting
+  settings = (Tcr CONTC, flagOf (s .continuing)) ∷ (Tcr CONT, flagOf (s .continuous)) ∷ (Tcr TXMSK, flagOf (s .transmitMask)) ∷ (Tcr RXMSK, flagOf (s .receiveMask)) ∷ (Tcr BYSW, flagOf (s .byteSwap)) ∷ (Tcr PCS, pcsOf (s .pcs)) ∷ (Tcr CPOL, polarityOf (s .mode .polarity)) ∷ (Tcr CPHA, phaseOf (s .mode .phase)) ∷ (Tcr LSBF, orderOf (s .order)) ∷ (Tcr FRAMESZ, f - 1) ∷ []
+
+  pub command-reads : Reads (settingsWord s (setField (Tcr FRAMESZ) (f - 1) 0)) s f
+  unfolding settings
+  command-reads = record {
+    frameSize = read-all (Tcr FRAMESZ) settings 0 tt ∙ mod-eq-of-lt (let b = accepted-between f h in omega arith);
+    transmitMask = read-all (Tcr TXMSK) settings 0 tt ∙ flag-lt (s .transmitMask);
+    receiveMask = read-all (Tcr RXMSK) settings 0 tt ∙ flag-lt (s .receiveMask);
+    continuing = read-all (Tcr CONTC) settings 0 tt ∙ flag-lt (s .continuing);
+    continuous = read-all (Tcr CONT) settings 0 tt ∙ flag-lt (s .continuous);
+    byteSwap = read-all (Tcr BYSW) settings 0 tt ∙ flag-lt (s .byteSwap);
+    order = read-all (Tcr LSBF) settings 0 tt ∙ order-lt (s .order);
+    pcs = read-all (Tcr PCS) settings 0 tt ∙ pcs-lt (s .pcs);
+    phase = read-all (Tcr CPHA) settings 0 tt ∙ phase-lt (s .mode .phase);
+    polarity = read-all (Tcr CPOL) settings 0 tt ∙ polarity-lt (s .mode .polarity);
+  }

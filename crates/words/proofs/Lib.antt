@@ -1,0 +1,7 @@
+pub mod WordLaws
+pub mod BufferLaws
+pub mod CommandLaws
+pub mod ClockLaws
+mod Spread
+mod Setter
+mod SetterValues

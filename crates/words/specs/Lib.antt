@@ -1,0 +1,7 @@
+pub mod Width
+pub mod Answer
+pub mod Word
+pub mod Buffer
+pub mod Command
+pub mod Clock
+pub mod Longer

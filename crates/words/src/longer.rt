@@ -1,0 +1,33 @@
+// The longer of two lent buffers, for the frame size: the write buffer on a tie.
+ghost use mathlib.Core.Path.{_≡_};
+ghost use Rattle.words.specs.Longer.{longer};
+
+pub fn longer_u8<'a>(read: &'a [u8], write: &'a [u8]) -> &'a [u8]
+    ensures { λ r. ⌜ r ≡ longer (read .entry) (write .entry) ⌝ }
+{
+    if write.len() < read.len() {
+        read
+    } else {
+        write
+    }
+}
+
+pub fn longer_u16<'a>(read: &'a [u16], write: &'a [u16]) -> &'a [u16]
+    ensures { λ r. ⌜ r ≡ longer (read .entry) (write .entry) ⌝ }
+{
+    if write.len() < read.len() {
+        read
+    } else {
+        write
+    }
+}
+
+pub fn longer_u32<'a>(read: &'a [u32], write: &'a [u32]) -> &'a [u32]
+    ensures { λ r. ⌜ r ≡ longer (read .entry) (write .entry) ⌝ }
+{
+    if write.len() < read.len() {
+        read
+    } else {
+        write
+    }
+}

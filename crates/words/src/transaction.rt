@@ -1,0 +1,260 @@
+// The command of a transfer, as the register TCR has it.
+ghost use mathlib.Core.Path.{_≡_};
+ghost use Prim.Native.Nat.{_*_, _≤_};
+ghost use lib.ListN.{length};
+ghost use Rattle.words.specs.Command.{flagOf, orderOf, pcsOf, polarityOf, phaseOf, setFlag, setOrder, setMode, setPcs, frameAccepted, commandAnswer, framed};
+ghost use Rattle.manual.specs.declared.Tcr.the-variants.{BYSW, RXMSK, TXMSK, CONT, CONTC};
+use manual::Field;
+use manual::Tcr;
+use super::mode::Mode;
+use super::mode::Pcs;
+use super::mode::Phase;
+use super::mode::Polarity;
+use super::order::BitOrder;
+
+// Data direction.
+pub enum Direction {
+    // Leaving the peripheral.
+    Tx,
+    // Entering the peripheral.
+    Rx,
+}
+
+pub enum LpspiError {
+    // The frame is shorter or longer than a command can say, or its last word is one bit.
+    FrameSize,
+    // A FIFO error in that direction.
+    Fifo(Direction),
+}
+
+pub enum TransactionResult {
+    Ok(Transaction),
+    Err(LpspiError),
+}
+
+pub struct Transaction(u32);
+
+// The values of the fields.
+fn flag(on: bool) -> u32
+    ensures { λ r. ⌜ r ≡ flagOf on ⌝ }
+{
+    if on { 1 } else { 0 }
+}
+
+fn lsbf(order: BitOrder) -> u32
+    ensures { λ r. ⌜ r ≡ orderOf order ⌝ }
+{
+    match order {
+        BitOrder::Msb => 0,
+        BitOrder::Lsb => 1,
+    }
+}
+
+fn cpol(polarity: Polarity) -> u32
+    ensures { λ r. ⌜ r ≡ polarityOf polarity ⌝ }
+{
+    match polarity {
+        Polarity::IdleLow => 0,
+        Polarity::IdleHigh => 1,
+    }
+}
+
+fn cpha(phase: Phase) -> u32
+    ensures { λ r. ⌜ r ≡ phaseOf phase ⌝ }
+{
+    match phase {
+        Phase::CaptureOnFirstTransition => 0,
+        Phase::CaptureOnSecondTransition => 1,
+    }
+}
+
+fn select(pcs: Pcs) -> u32
+    ensures { λ r. ⌜ r ≡ pcsOf pcs ⌝ }
+{
+    match pcs {
+        Pcs::Pcs0 => 0,
+        Pcs::Pcs1 => 1,
+        Pcs::Pcs2 => 2,
+        Pcs::Pcs3 => 3,
+    }
+}
+
+impl Transaction {
+    pub const MIN_FRAME_SIZE: u16 = 8;
+
+    pub const MAX_FRAME_SIZE: u16 = 1 << 12;
+
+    pub const WORD_SIZE: u16 = 32;
+
+    fn frame_size_valid(frame_size: u16) -> bool
+        ensures { λ r. ⌜ r ≡ frameAccepted «frame_size» ⌝ }
+    {
+        if frame_size < Self::MIN_FRAME_SIZE {
+            return false;
+        }
+        if Self::MAX_FRAME_SIZE < frame_size {
+            return false;
+        }
+        frame_size % Self::WORD_SIZE != 1
+    }
+
+    // The command of a frame of that many bits.
+    pub fn new(frame_size: u16) -> TransactionResult
+        ensures { λ r. ⌜ commandAnswer r ≡ framed «frame_size» ⌝ }
+    {
+        if Self::frame_size_valid(frame_size) {
+            TransactionResult::Ok(Self(frame_size as u32 - 1))
+        } else {
+            TransactionResult::Err(LpspiError::FrameSize)
+        }
+    }
+
+    // The command of a frame of `len` elements.
+    fn new_words(bits: u16, len: usize) -> TransactionResult
+        requires { ⌜ (8 ≤ bits) × (bits ≤ 32) ⌝ }
+        ensures { λ r. ⌜ commandAnswer r ≡ framed (bits * len) ⌝ }
+    {
+        if 512 < len {
+            return TransactionResult::Err(LpspiError::FrameSize);
+        }
+        Self::new(bits * (len as u16))
+    }
+
+    pub fn new_u8s(data: &[u8]) -> TransactionResult
+        ensures { λ r. ⌜ commandAnswer r ≡ framed (8 * length (now («data» .entry))) ⌝ }
+    {
+        Self::new_words(8, data.len())
+    }
+
+    pub fn new_u16s(data: &[u16]) -> TransactionResult
+        ensures { λ r. ⌜ commandAnswer r ≡ framed (16 * length (now («data» .entry))) ⌝ }
+    {
+        Self::new_words(16, data.len())
+    }
+
+    pub fn new_u32s(data: &[u32]) -> TransactionResult
+        ensures { λ r. ⌜ commandAnswer r ≡ framed (32 * length (now («data» .entry))) ⌝ }
+    {
+        Self::new_words(32, data.len())
+    }
+
+    // The word of the register TCR.
+    pub fn as_raw(self) -> u32
+        ensures { λ r. ⌜ r ≡ self .0 ⌝ }
+    {
+        self.0
+    }
+
+    // Swap the bytes of a word.
+    pub fn with_byte_swap(self, swap: bool) -> Self
+        ensures { λ r. ⌜ r .0 ≡ setFlag BYSW swap (self .0) ⌝ }
+    {
+        self.with_flag(Tcr::BYSW, swap)
+    }
+
+    pub fn with_bit_order(self, bit_order: BitOrder) -> Self
+        ensures { λ r. ⌜ r .0 ≡ setOrder «bit_order» (self .0) ⌝ }
+    {
+        Self(Field::Tcr(Tcr::LSBF).set(lsbf(bit_order), self.0))
+    }
+
+    // Discard received data.
+    pub fn with_receive_data_mask(self, rxmask: bool) -> Self
+        ensures { λ r. ⌜ r .0 ≡ setFlag RXMSK rxmask (self .0) ⌝ }
+    {
+        self.with_flag(Tcr::RXMSK, rxmask)
+    }
+
+    // Send no data.
+    pub fn with_transmit_data_mask(self, txmask: bool) -> Self
+        ensures { λ r. ⌜ r .0 ≡ setFlag TXMSK txmask (self .0) ⌝ }
+    {
+        self.with_flag(Tcr::TXMSK, txmask)
+    }
+
+    // Keep the chip select asserted after the frame.
+    pub fn with_continuous(self, cont: bool) -> Self
+        ensures { λ r. ⌜ r .0 ≡ setFlag CONT cont (self .0) ⌝ }
+    {
+        self.with_flag(Tcr::CONT, cont)
+    }
+
+    // The command belongs to a continuous transfer that has begun.
+    pub fn with_continuing(self, contc: bool) -> Self
+        ensures { λ r. ⌜ r .0 ≡ setFlag CONTC contc (self .0) ⌝ }
+    {
+        self.with_flag(Tcr::CONTC, contc)
+    }
+
+    pub fn with_mode(self, mode: Mode) -> Self
+        ensures { λ r. ⌜ r .0 ≡ setMode mode (self .0) ⌝ }
+    {
+        let polarity = mode.polarity;
+        let phase = mode.phase;
+        let word = Field::Tcr(Tcr::CPHA).set(cpha(phase), self.0);
+        Self(Field::Tcr(Tcr::CPOL).set(cpol(polarity), word))
+    }
+
+    pub fn with_pcs(self, pcs: Pcs) -> Self
+        ensures { λ r. ⌜ r .0 ≡ setPcs pcs (self .0) ⌝ }
+    {
+        Self(Field::Tcr(Tcr::PCS).set(select(pcs), self.0))
+    }
+
+    fn with_flag(self, field: Tcr, on: bool) -> Self
+        ensures { λ r. ⌜ r .0 ≡ setFlag field on (self .0) ⌝ }
+    {
+        Self(Field::Tcr(field).set(flag(on), self.0))
+    }
+}
+
+// The same setters where the command is kept.
+impl Transaction {
+    pub fn set_byte_swap(&mut self, swap: bool)
+        ensures { λ _. ⌜ now (self .exit) .0 ≡ setFlag BYSW swap (now (self .entry) .0) ⌝ }
+    {
+        *self = self.with_byte_swap(swap);
+    }
+
+    pub fn set_bit_order(&mut self, bit_order: BitOrder)
+        ensures { λ _. ⌜ now (self .exit) .0 ≡ setOrder «bit_order» (now (self .entry) .0) ⌝ }
+    {
+        *self = self.with_bit_order(bit_order);
+    }
+
+    pub fn set_receive_data_mask(&mut self, rxmask: bool)
+        ensures { λ _. ⌜ now (self .exit) .0 ≡ setFlag RXMSK rxmask (now (self .entry) .0) ⌝ }
+    {
+        *self = self.with_receive_data_mask(rxmask);
+    }
+
+    pub fn set_transmit_data_mask(&mut self, txmask: bool)
+        ensures { λ _. ⌜ now (self .exit) .0 ≡ setFlag TXMSK txmask (now (self .entry) .0) ⌝ }
+    {
+        *self = self.with_transmit_data_mask(txmask);
+    }
+
+    pub fn set_continuous(&mut self, cont: bool)
+        ensures { λ _. ⌜ now (self .exit) .0 ≡ setFlag CONT cont (now (self .entry) .0) ⌝ }
+    {
+        *self = self.with_continuous(cont);
+    }
+
+    pub fn set_continuing(&mut self, contc: bool)
+        ensures { λ _. ⌜ now (self .exit) .0 ≡ setFlag CONTC contc (now (self .entry) .0) ⌝ }
+    {
+        *self = self.with_continuing(contc);
+    }
+
+    pub fn set_mode(&mut self, mode: Mode)
+        ensures { λ _. ⌜ now (self .exit) .0 ≡ setMode mode (now (self .entry) .0) ⌝ }
+    {
+        *self = self.with_mode(mode);
+    }
+
+    pub fn set_pcs(&mut self, pcs: Pcs)
+        ensures { λ _. ⌜ now (self .exit) .0 ≡ setPcs pcs (now (self .entry) .0) ⌝ }
+    {
+        *self = self.with_pcs(pcs);
+    }
+}

@@ -1,0 +1,79 @@
+// One FIFO word to elements.
+ghost use mathlib.Core.Path.{_≡_};
+ghost use Prim.Native.Nat.{_≤_};
+ghost use lib.ListN.{length};
+ghost use Rattle.words.specs.Answer.{unpackNumber};
+ghost use Rattle.words.specs.Word.{unpack};
+ghost use Rattle.words.specs.Buffer.{laid, unpackedNumber, unpacked};
+use super::order::BitOrder;
+use super::place::head;
+use super::place::tail;
+
+pub enum UnpackResult {
+    Done,
+    TooMany,
+}
+
+// The first of `n` elements of a word to the front of a buffer, and the rest after it; what has no room is dropped.
+pub(crate) fn spread_u8(order: BitOrder, n: usize, word: u32, out: &mut [u8])
+    requires { ⌜ n ≤ 4 ⌝ }
+    ensures { λ _. ⌜ now (out .exit) ≡ laid (unpack order 8 n word) (now (out .entry)) ⌝ }
+{
+    if n == 0 {
+        return;
+    }
+    if out.len() == 0 {
+        return;
+    }
+    out[0] = head(order, 8, n - 1, word) as u8;
+    spread_u8(order, n - 1, tail(order, 8, n - 1, word), &mut out[1..]);
+}
+
+pub(crate) fn spread_u16(order: BitOrder, n: usize, word: u32, out: &mut [u16])
+    requires { ⌜ n ≤ 2 ⌝ }
+    ensures { λ _. ⌜ now (out .exit) ≡ laid (unpack order 16 n word) (now (out .entry)) ⌝ }
+{
+    if n == 0 {
+        return;
+    }
+    if out.len() == 0 {
+        return;
+    }
+    out[0] = head(order, 16, n - 1, word) as u16;
+    spread_u16(order, n - 1, tail(order, 16, n - 1, word), &mut out[1..]);
+}
+
+// `count` bytes of a word over the front of a buffer.
+pub fn unpack_u8(word: u32, order: BitOrder, count: usize, out: &mut [u8]) -> UnpackResult
+    ensures { λ r. ⌜ (unpackNumber r ≡ unpackedNumber 8 count) × (now (out .exit) ≡ unpacked order 8 count word (now (out .entry))) ⌝ }
+{
+    if 4 < count {
+        return UnpackResult::TooMany;
+    }
+    spread_u8(order, count, word, out);
+    UnpackResult::Done
+}
+
+// `count` halves of a word over the front of a buffer.
+pub fn unpack_u16(word: u32, order: BitOrder, count: usize, out: &mut [u16]) -> UnpackResult
+    ensures { λ r. ⌜ (unpackNumber r ≡ unpackedNumber 16 count) × (now (out .exit) ≡ unpacked order 16 count word (now (out .entry))) ⌝ }
+{
+    if 2 < count {
+        return UnpackResult::TooMany;
+    }
+    spread_u16(order, count, word, out);
+    UnpackResult::Done
+}
+
+// The word itself, whatever the order and, where it is not refused, the count.
+pub fn unpack_u32(word: u32, order: BitOrder, count: usize, out: &mut [u32]) -> UnpackResult
+    ensures { λ r. ⌜ (unpackNumber r ≡ unpackedNumber 32 count) × (now (out .exit) ≡ unpacked order 32 count word (now (out .entry))) ⌝ }
+{
+    if 1 < count {
+        return UnpackResult::TooMany;
+    }
+    if 0 < out.len() {
+        out[0] = word;
+    }
+    UnpackResult::Done
+}

@@ -1,0 +1,45 @@
+// The three widths of an element: what the Rust has as the trait `Word`.
+ghost use mathlib.Core.Path.{_≡_};
+ghost use Rattle.words.specs.Width.{bitsOf};
+ghost use Rattle.words.specs.Buffer.{perWord, dummy, wordCount};
+
+pub enum Width {
+    U8,
+    U16,
+    U32,
+}
+
+impl Width {
+    // The elements that fit a FIFO word.
+    pub fn per_word(self) -> usize
+        ensures { λ r. ⌜ r ≡ perWord (bitsOf self) ⌝ }
+    {
+        match self {
+            Width::U8 => 4,
+            Width::U16 => 2,
+            Width::U32 => 1,
+        }
+    }
+
+    // What is sent where an element is missing.
+    pub fn dummy(self) -> u32
+        ensures { λ r. ⌜ r ≡ dummy (bitsOf self) ⌝ }
+    {
+        match self {
+            Width::U8 => 0xFF,
+            Width::U16 => 0xFFFF,
+            Width::U32 => 0xFFFF_FFFF,
+        }
+    }
+
+    // The FIFO words that `len` elements take.
+    pub fn word_count(self, len: usize) -> usize
+        ensures { λ r. ⌜ r ≡ wordCount (bitsOf self) len ⌝ }
+    {
+        match self {
+            Width::U8 => len / 4 + (len % 4 + 3) / 4,
+            Width::U16 => len / 2 + len % 2,
+            Width::U32 => len,
+        }
+    }
+}

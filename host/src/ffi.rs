@@ -1,0 +1,44 @@
+//! The C functions of `libc_api.a`.
+//!
+//! A slice is a pointer and a length. Every function is defined for every
+//! input, provided that the pointers are valid for their lengths.
+
+extern "C" {
+    #[allow(clippy::too_many_arguments)]
+    pub fn lpspi_command(
+        frame_size: u16,
+        byte_swap: bool,
+        lsb: bool,
+        receive_mask: bool,
+        transmit_mask: bool,
+        continuous: bool,
+        continuing: bool,
+        mode: u32,
+        pcs: u32,
+        word: *mut u32,
+    ) -> u32;
+
+    pub fn lpspi_clock(source_clock_hz: u32, spi_clock_hz: u32, word: *mut u32) -> u32;
+
+    pub fn lpspi_pack_u8(lsb: bool, bytes: *const u8, len: usize, word: *mut u32) -> u32;
+
+    pub fn lpspi_unpack_u8(lsb: bool, word: u32, count: usize, bytes: *mut u8, len: usize) -> u32;
+
+    pub fn lpspi_pack_words_u8(
+        lsb: bool,
+        bytes: *const u8,
+        len: usize,
+        total: usize,
+        words: *mut u32,
+        words_len: usize,
+    );
+
+    pub fn lpspi_unpack_words_u8(
+        lsb: bool,
+        words: *const u32,
+        words_len: usize,
+        total: usize,
+        bytes: *mut u8,
+        len: usize,
+    );
+}

@@ -1,0 +1,153 @@
+//! Rust wrappers over the proved LPSPI core: commands, clocks and byte packing.
+//!
+//! The core is the static library `libc_api.a`; see `build.rs`.
+#![warn(missing_docs)]
+
+mod ffi;
+pub mod original_shape;
+pub mod raw;
+pub mod reference;
+
+use std::fmt;
+
+/// Order of the elements in a FIFO word, and of the bits on the wire.
+#[derive(Debug, Clone, Copy, PartialEq, Eq, Default)]
+pub enum BitOrder {
+    /// Most significant first.
+    #[default]
+    Msb,
+    /// Least significant first.
+    Lsb,
+}
+
+impl BitOrder {
+    /// Both orders.
+    pub const ALL: [Self; 2] = [Self::Msb, Self::Lsb];
+
+    /// Whether this is [`BitOrder::Lsb`].
+    #[inline]
+    pub const fn is_lsb(self) -> bool {
+        matches!(self, Self::Lsb)
+    }
+}
+
+/// The settings of a command, as written to TCR.
+///
+/// The default has frame size 0, which [`command`] refuses.
+#[derive(Debug, Clone, Copy, PartialEq, Eq, Default)]
+pub struct Command {
+    /// Frame size in bits: 8 to 4096, and not 1 modulo 32.
+    pub frame_size: u16,
+    /// Swap the bytes of each word (BYSW).
+    pub byte_swap: bool,
+    /// Bit order (LSBF).
+    pub bit_order: BitOrder,
+    /// Discard received data (RXMSK).
+    pub receive_mask: bool,
+    /// Send no data (TXMSK).
+    pub transmit_mask: bool,
+    /// Start a continuous transfer (CONT).
+    pub continuous: bool,
+    /// Continue the previous transfer (CONTC).
+    pub continuing: bool,
+    /// SPI mode number, taken modulo 4: bit 1 is CPOL, bit 0 is CPHA.
+    pub mode: u32,
+    /// Chip select number, taken modulo 4.
+    pub pcs: u32,
+}
+
+/// A refusal. The discriminant is the number in the scope document.
+#[derive(Debug, Clone, Copy, PartialEq, Eq)]
+#[repr(u32)]
+pub enum Error {
+    /// The frame size is not accepted.
+    FrameSize = 1,
+    /// The source clock or the wanted clock is 0.
+    ZeroClock = 6,
+    /// More elements than a FIFO word holds.
+    TooManyElements = 8,
+}
+
+impl Error {
+    /// The number in the scope document.
+    pub const fn number(self) -> u32 {
+        self as u32
+    }
+}
+
+impl fmt::Display for Error {
+    fn fmt(&self, f: &mut fmt::Formatter<'_>) -> fmt::Result {
+        f.write_str(match self {
+            Self::FrameSize => "frame size not accepted",
+            Self::ZeroClock => "a clock is zero",
+            Self::TooManyElements => "more elements than a word holds",
+        })
+    }
+}
+
+impl std::error::Error for Error {}
+
+/// Turns a result number into a `Result`.
+///
+/// Panics on a number that these functions never give.
+#[inline]
+fn answer<T>(number: u32, value: T) -> Result<T, Error> {
+    match number {
+        0 => Ok(value),
+        1 => Err(Error::FrameSize),
+        6 => Err(Error::ZeroClock),
+        8 => Err(Error::TooManyElements),
+        _ => panic!("result number {number} is not one of 0, 1, 6, 8"),
+    }
+}
+
+/// The TCR word of a command.
+#[inline]
+pub fn command(command: &Command) -> Result<u32, Error> {
+    let mut word = 0;
+    let number = raw::command(command, &mut word);
+    answer(number, word)
+}
+
+/// The CCR word for a source clock and a wanted SPI clock.
+#[inline]
+pub fn clock(source_hz: u32, clock_hz: u32) -> Result<u32, Error> {
+    let mut word = 0;
+    let number = raw::clock(source_hz, clock_hz, &mut word);
+    answer(number, word)
+}
+
+/// One FIFO word of at most four bytes. No bytes give 0.
+#[inline]
+pub fn pack_u8(order: BitOrder, bytes: &[u8]) -> Result<u32, Error> {
+    let mut word = 0;
+    let number = raw::pack_u8(order, bytes, &mut word);
+    answer(number, word)
+}
+
+/// Puts the `count` bytes of one FIFO word at the front of `bytes`.
+///
+/// Bytes past the end are dropped. A refusal leaves `bytes` as found.
+#[inline]
+pub fn unpack_u8(order: BitOrder, word: u32, count: usize, bytes: &mut [u8]) -> Result<(), Error> {
+    answer(raw::unpack_u8(order, word, count, bytes), ())
+}
+
+/// Puts the FIFO words of a transfer of `total` bytes at the front of `words`.
+///
+/// Missing bytes are 0xFF. Words past the end of `words` are dropped; places
+/// past the transfer's last word are kept.
+#[inline]
+pub fn pack_words_u8(order: BitOrder, bytes: &[u8], total: usize, words: &mut [u32]) {
+    raw::pack_words_u8(order, bytes, total, words);
+}
+
+/// Puts the bytes of the received words of a transfer of `total` bytes at the
+/// front of `bytes`.
+///
+/// Bytes past the end of `bytes` are dropped; places past the received bytes
+/// are kept.
+#[inline]
+pub fn unpack_words_u8(order: BitOrder, words: &[u32], total: usize, bytes: &mut [u8]) {
+    raw::unpack_words_u8(order, words, total, bytes);
+}

@@ -1,0 +1,106 @@
+//! Random values for the tests.
+
+// Each test file uses only a part.
+#![allow(dead_code)]
+
+use lpspi_host::{BitOrder, Command};
+use std::sync::OnceLock;
+use std::time::{SystemTime, UNIX_EPOCH};
+
+/// The seed of this run: `LPSPI_SEED` if set, else the time.
+fn seed() -> u64 {
+    static SEED: OnceLock<u64> = OnceLock::new();
+    *SEED.get_or_init(|| match std::env::var("LPSPI_SEED") {
+        Ok(text) => text.parse().expect("LPSPI_SEED is a decimal u64"),
+        Err(_) => {
+            let now = SystemTime::now().duration_since(UNIX_EPOCH);
+            now.expect("the clock is past 1970").as_nanos() as u64
+        }
+    })
+}
+
+/// A xorshift generator that also counts the cases of its test.
+pub struct Random {
+    test: &'static str,
+    state: u64,
+    cases: u64,
+}
+
+impl Random {
+    /// Starts from the run's seed and prints it.
+    pub fn new(test: &'static str) -> Self {
+        let seed = seed();
+        println!("{test}: LPSPI_SEED={seed}");
+        // The state must not be 0.
+        let state = (seed ^ 0x9E37_79B9_7F4A_7C15).max(1);
+        Self {
+            test,
+            state,
+            cases: 0,
+        }
+    }
+
+    /// Counts one case.
+    pub fn case(&mut self) {
+        self.cases += 1;
+    }
+
+    fn next(&mut self) -> u64 {
+        self.state ^= self.state << 13;
+        self.state ^= self.state >> 7;
+        self.state ^= self.state << 17;
+        self.state.wrapping_mul(0x2545_F491_4F6C_DD1D)
+    }
+
+    pub fn word(&mut self) -> u32 {
+        (self.next() >> 32) as u32
+    }
+
+    /// A number of a random bit length, so that small ones occur as well.
+    pub fn any_size(&mut self) -> u32 {
+        let shift = self.word() % 32;
+        self.word() >> shift
+    }
+
+    pub fn flag(&mut self) -> bool {
+        self.word() & 1 == 1
+    }
+
+    pub fn order(&mut self) -> BitOrder {
+        BitOrder::ALL[usize::from(self.flag())]
+    }
+
+    pub fn bytes(&mut self, len: usize) -> Vec<u8> {
+        (0..len).map(|_| self.word() as u8).collect()
+    }
+
+    pub fn words(&mut self, len: usize) -> Vec<u32> {
+        (0..len).map(|_| self.word()).collect()
+    }
+
+    /// A command of the given frame size; mode and PCS go over 3.
+    pub fn command(&mut self, frame_size: u16) -> Command {
+        Command {
+            frame_size,
+            byte_swap: self.flag(),
+            bit_order: self.order(),
+            receive_mask: self.flag(),
+            transmit_mask: self.flag(),
+            continuous: self.flag(),
+            continuing: self.flag(),
+            mode: self.any_size(),
+            pcs: self.any_size(),
+        }
+    }
+}
+
+impl Drop for Random {
+    fn drop(&mut self) {
+        println!("{}: {} cases", self.test, self.cases);
+    }
+}
+
+/// Byte lengths around the word boundaries of small and large transfers.
+pub fn lengths() -> impl Iterator<Item = usize> + Clone {
+    (0..=20).chain(60..=68).chain(124..=132).chain(508..=516)
+}
