@@ -6,7 +6,7 @@ use mathlib.Core.Path.{_≡_, refl, sym, ap, ap₂, _∙_, subst}
 use mathlib.Core.List.{List, [], _∷_, _++_, append-nil, append-assoc}
 use native.Mathlib.Numerals.{add-one, sub-one}
 use native.Mathlib.Omega.{arith}
-use native.Mathlib.Nat.{mul-suc, suc-mul, mul-zero, mul-comm, le-div-iff-mul-le, sub-zero, zero-sub, sub-eq-zero-of-le, zero-min, min-zero, suc-min-suc, suc-sub-suc, lt-div-mul-add}
+use native.Mathlib.Nat.{mul-suc, suc-mul, mul-zero, mul-comm, le-div-iff-mul-le, sub-zero, zero-sub, sub-eq-zero-of-le, zero-min, min-zero, suc-min-suc, suc-sub-suc, lt-div-mul-add, mul-le-mul-left}
 use borrow.Author.Tests.{leb-true, leb-false, le-leb, lt-leb}
 use borrow.Rule.Slice.PartMut.{putMid}
 use lib.Dec.{leb}
@@ -285,6 +285,34 @@ unpack-stop o k total n ws bs h s =
 
     split : unpackWords o k total ws ≡ front ++ unpackWords o k (total - perWord k * n) (drop n ws)
     split = unpack-split o k total n ws
+
+-- a whole word of elements that are all there
+filled-whole : (d e n : ℕ) (xs : List ℕ) → n ≤ length xs → filled d n xs ≡ upTo n (λ (j : ℕ). getD xs j e)
+filled-whole d e zero xs h = refl
+filled-whole d e (suc n) [] h = absurd (omega arith)
+filled-whole d e (suc n) (x ∷ xs) h = ap (λ (l : List ℕ). x ∷ l) (filled-whole d e n xs (omega arith))
+
+pub word-whole : (o : BitOrder) (k total i at : ℕ) (xs : List ℕ) → at ≡ perWord k * i → at + perWord k ≤ length xs → at + perWord k ≤ total
+    → pack o k (upTo (perWord k) (λ (j : ℕ). getD xs (at + j) 0)) ≡ wordAt o k total xs i
+word-whole o k total i at xs ea hx ht =
+    let n : countAt k total i ≡ perWord k = omega arith in
+    ap (pack o k)
+    (upTo-same (perWord k) (λ (j : ℕ). getD xs (at + j) 0) (λ (j : ℕ). getD (drop at xs) j 0) (λ j h. sym (getD-drop at xs j 0))
+    ∙ sym (filled-whole (dummy k) 0 (perWord k) (drop at xs) (omega (arith, length-drop at xs)))
+    ∙ ap₂ (λ (m p : ℕ). filled (dummy k) m (drop p xs)) (sym n) ea)
+
+-- which does not depend on how much longer the transfer is
+word-prefix : (o : BitOrder) (k total n i : ℕ) (xs : List ℕ) → i < n → perWord k * n ≤ total → wordAt o k (perWord k * n) xs i ≡ wordAt o k total xs i
+word-prefix o k total n i xs h l =
+    let m : perWord k * suc i ≤ perWord k * n = mul-le-mul-left (perWord k) h in
+    let e : countAt k (perWord k * n) i ≡ countAt k total i = omega (arith, mul-suc (perWord k) i) in
+    ap (λ (c : ℕ). pack o k (filled (dummy k) c (drop (perWord k * i) xs))) e
+
+pub words-prefix : (o : BitOrder) (k total n : ℕ) (xs : List ℕ) → wordCount k (perWord k * n) ≡ n → perWord k * n ≤ total
+    → packWords o k (perWord k * n) xs ≡ upTo n (wordAt o k total xs)
+words-prefix o k total n xs e l =
+    ap (λ (m : ℕ). upTo m (wordAt o k (perWord k * n) xs)) e
+    ∙ upTo-same n (wordAt o k (perWord k * n) xs) (wordAt o k total xs) (λ i h. word-prefix o k total n i xs h l)
 
 -- width 32: word i is element i
 pub word-32 : (o : BitOrder) (total i : ℕ) (xs : List ℕ) → i < total → getD xs i (dummy 32) ≡ wordAt o 32 total xs i

@@ -1,9 +1,13 @@
 // Whole buffers: elements to the FIFO words of a transfer, and received words to elements.
 ghost use mathlib.Core.Path.{_≡_};
-ghost use Prim.Native.Nat.{min as least};
-ghost use Rattle.words.specs.Buffer.{laid, packWords, unpackWords};
+ghost use Prim.Native.Nat.{ℕ, _*_, _≤_, min as least};
+ghost use mathlib.Core.List.{List};
+ghost use lib.ListN.{length};
+ghost use Rattle.words.specs.Buffer.{wordCount, laid, upTo, wordAt, packWords, unpackWords};
 use super::order::BitOrder;
 use super::pack::element_u32;
+use super::pack::full_u8;
+use super::pack::full_u16;
 use super::pack::word_u8;
 use super::pack::word_u16;
 use super::unpack::spread_u8;
@@ -16,13 +20,55 @@ fn min(a: usize, b: usize) -> usize
     if a < b { a } else { b }
 }
 
+// The first `n` words, none of them short and no element missing.
+fn pack_full_u8(order: BitOrder, xs: &[u8], n: usize, words: &mut [u32])
+    requires { ⌜ (4 * n ≤ length (now xs)) × (n ≤ length (now words)) ⌝ }
+    ensures { λ _. ⌜ now (words .exit) ≡ laid (packWords order 8 (4 * n) (now (xs .entry))) (now (words .entry)) ⌝ }
+{
+    for i in 0..n {
+        let at = 4 * i;
+        words[i] = full_u8(order, xs[at], xs[at + 1], xs[at + 2], xs[at + 3]);
+    }
+}
+
+// Words `from` to `n`, after those before them.
+fn pack_rest_u8(order: BitOrder, xs: &[u8], total: usize, from: usize, n: usize, words: &mut [u32])
+    requires { ⌜ (from ≤ n) × (n ≤ length (now words)) × (n ≤ wordCount 8 total) ⌝ }
+    ensures { λ _. ⌜ ((ws : List ℕ) → now (words .entry) ≡ laid (upTo from (wordAt order 8 total (now (xs .entry)))) ws → now (words .exit) ≡ laid (upTo n (wordAt order 8 total (now (xs .entry)))) ws) ⌝ }
+{
+    for i in from..n {
+        words[i] = word_u8(order, min(4, total - 4 * i), xs, 4 * i);
+    }
+}
+
 // The words of a transfer of `total` bytes that sends `xs`, over the front of `words`.
 pub fn pack_words_u8(order: BitOrder, xs: &[u8], total: usize, words: &mut [u32])
     ensures { λ _. ⌜ now (words .exit) ≡ laid (packWords order 8 total (now (xs .entry))) (now (words .entry)) ⌝ }
 {
     let n = min(Width::U8.word_count(total), words.len());
+    let full = min(min(total, xs.len()) / 4, n);
+    pack_full_u8(order, xs, full, words);
+    pack_rest_u8(order, xs, total, full, n, words);
+}
+
+// The first `n` words, none of them short and no element missing.
+fn pack_full_u16(order: BitOrder, xs: &[u16], n: usize, words: &mut [u32])
+    requires { ⌜ (2 * n ≤ length (now xs)) × (n ≤ length (now words)) ⌝ }
+    ensures { λ _. ⌜ now (words .exit) ≡ laid (packWords order 16 (2 * n) (now (xs .entry))) (now (words .entry)) ⌝ }
+{
     for i in 0..n {
-        words[i] = word_u8(order, min(4, total - 4 * i), xs, 4 * i);
+        let at = 2 * i;
+        words[i] = full_u16(order, xs[at], xs[at + 1]);
+    }
+}
+
+// Words `from` to `n`, after those before them.
+fn pack_rest_u16(order: BitOrder, xs: &[u16], total: usize, from: usize, n: usize, words: &mut [u32])
+    requires { ⌜ (from ≤ n) × (n ≤ length (now words)) × (n ≤ wordCount 16 total) ⌝ }
+    ensures { λ _. ⌜ ((ws : List ℕ) → now (words .entry) ≡ laid (upTo from (wordAt order 16 total (now (xs .entry)))) ws → now (words .exit) ≡ laid (upTo n (wordAt order 16 total (now (xs .entry)))) ws) ⌝ }
+{
+    for i in from..n {
+        words[i] = word_u16(order, min(2, total - 2 * i), xs, 2 * i);
     }
 }
 
@@ -30,9 +76,9 @@ pub fn pack_words_u16(order: BitOrder, xs: &[u16], total: usize, words: &mut [u3
     ensures { λ _. ⌜ now (words .exit) ≡ laid (packWords order 16 total (now (xs .entry))) (now (words .entry)) ⌝ }
 {
     let n = min(Width::U16.word_count(total), words.len());
-    for i in 0..n {
-        words[i] = word_u16(order, min(2, total - 2 * i), xs, 2 * i);
-    }
+    let full = min(min(total, xs.len()) / 2, n);
+    pack_full_u16(order, xs, full, words);
+    pack_rest_u16(order, xs, total, full, n, words);
 }
 
 pub fn pack_words_u32(order: BitOrder, xs: &[u32], total: usize, words: &mut [u32])

@@ -1,6 +1,7 @@
 // Elements to one FIFO word.
 ghost use mathlib.Core.Path.{_≡_};
-ghost use Prim.Native.Nat.{_+_, _^_, _<_, _≤_};
+ghost use Prim.Native.Nat.{_+_, _*_, _^_, _<_, _≤_};
+ghost use mathlib.Core.List.{[], _∷_};
 ghost use lib.ListN.{length, getD, drop};
 ghost use Rattle.words.specs.Answer.{packAnswer};
 ghost use Rattle.words.specs.Word.{pack};
@@ -57,6 +58,33 @@ pub(crate) fn word_u16(order: BitOrder, count: usize, xs: &[u16], at: usize) -> 
         i += 1;
     }
     word
+}
+
+// The word of four bytes.
+pub(crate) fn full_u8(order: BitOrder, a: u8, b: u8, c: u8, d: u8) -> u32
+    ensures { λ r. ⌜ r ≡ pack order 8 (a ∷ b ∷ c ∷ d ∷ []) ⌝ }
+{
+    match order {
+        BitOrder::Msb => bytes(a, b, c, d),
+        BitOrder::Lsb => bytes(d, c, b, a),
+    }
+}
+
+// Four bytes side by side, the first highest.
+fn bytes(a: u8, b: u8, c: u8, d: u8) -> u32
+    ensures { λ r. ⌜ r ≡ a * 2 ^ 24 + (b * 2 ^ 16 + (c * 2 ^ 8 + d)) ⌝ }
+{
+    ((a as u32) << 24) | (((b as u32) << 16) | (((c as u32) << 8) | (d as u32)))
+}
+
+// The word of two halves.
+pub(crate) fn full_u16(order: BitOrder, a: u16, b: u16) -> u32
+    ensures { λ r. ⌜ r ≡ pack order 16 (a ∷ b ∷ []) ⌝ }
+{
+    match order {
+        BitOrder::Msb => ((a as u32) << 16) | (b as u32),
+        BitOrder::Lsb => ((b as u32) << 16) | (a as u32),
+    }
 }
 
 // The word of at most four bytes.

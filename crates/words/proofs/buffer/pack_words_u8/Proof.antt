@@ -1,95 +1,60 @@
--- `pack_words_u8` meets its contract. The loop's invariant: the words so far are laid.
+-- `pack_words_u8` meets its contract: the whole words, then the rest, up to the end of the transfer or of the words.
 -- Assumes nothing.
-use Prim.Native.Nat.{ℕ, _≤_, _<_, _*_, _-_}
+use Prim.Native.Nat.{ℕ, _≤_, _<_, _*_}
+use mathlib.Core.List.{List}
 use mathlib.Core.Path.{_≡_, refl, ap, _∙_}
 use native.Mathlib.Omega.{arith}
-use lib.ListN.{length, drop, length-set}
-use Rattle.words.specs.Word.{pack}
-use Rattle.words.specs.Buffer.{dummy, filled, laid, upTo, wordAt, wordCount}
-use Rattle.words.proofs.BufferLaws.{store-step, store-stop}
+use lib.ListN.{length}
+use Rattle.words.specs.Buffer.{laid, wordAt, wordCount}
+use Rattle.words.proofs.BufferLaws.{store-stop, words-prefix}
 use borrow.Author.Needs.{needs}
 use Rattle.words.proofs.buffer.pack_words_u8.Statement.{statement}
 use Rattle.words.proofs.buffer.pack_words_u8.Tie as tie
 
-abbrev Inv-loop : tie.InvT-loop
-Inv-loop order xs total words₀ n i₀ words i = (i ≤ n) × (length words ≡ length words₀) × (words ≡ laid (upTo i (wordAt order 8 total xs)) words₀)
-
-abbrev μ-loop : tie.MeasureT-loop
-μ-loop order xs total words₀ n i₀ words i = n - i
-
-word-count-requires : tie.Need-word-count-requires Inv-loop μ-loop
+word-count-requires : tie.Need-word-count-requires
 word-count-requires c κs = search needs
 
-min-requires : tie.Need-min-requires Inv-loop μ-loop
+min-requires : tie.Need-min-requires
 min-requires c κs = search needs
 
-loop-holds : tie.Need-loop-holds Inv-loop μ-loop
-loop-holds c = (omega arith, refl, refl)
-
-mul-min : tie.Need-mul-min Inv-loop μ-loop
-mul-min c = omega arith
-
-sub-min : tie.Need-sub-min Inv-loop μ-loop
-sub-min c = omega arith
-
-min-requires-2 : tie.Need-min-requires-2 Inv-loop μ-loop
+min-requires-2 : tie.Need-min-requires-2
 min-requires-2 c κs = search needs
 
-mul-word-u8 : tie.Need-mul-word-u8 Inv-loop μ-loop
-mul-word-u8 c = omega arith
+min-requires-3 : tie.Need-min-requires-3
+min-requires-3 c κs = search needs
 
-word-u8-requires : tie.Need-word-u8-requires Inv-loop μ-loop
-word-u8-requires c κs = (omega arith, omega arith)
+pack-full-u8-requires : tie.Need-pack-full-u8-requires
+pack-full-u8-requires c κs = search needs
 
-mul-words : tie.Need-mul-words Inv-loop μ-loop
-mul-words c = omega arith
+pack-rest-u8-requires : tie.Need-pack-rest-u8-requires
+pack-rest-u8-requires c κs = search needs
 
-slice-write-words : tie.Need-slice-write-words Inv-loop μ-loop
-slice-write-words c = omega arith
+same-length : tie.Need-same-length
+same-length c = search needs
 
-add-i : tie.Need-add-i Inv-loop μ-loop
-add-i c = omega arith
-
-loop-less : tie.Need-loop-less Inv-loop μ-loop
-loop-less c = omega arith
-
-loop-again : tie.Need-loop-again Inv-loop μ-loop
-loop-again c =
-
-    let l = c .before .before .before .loop in
-    let a = c .before .before .before .before .before .before .before .before .args in
-    let word = c .word-u8 .ensures ∙ ap (λ (n : ℕ). pack (a .order) 8 (filled (dummy 8) n (drop (4 * l .i) (a .xs .now)))) (c .before .min2 .ensures) in
-    (omega arith, length-set (l .words) (l .i) (c .word-u8 .result) ∙ l .inv .1, store-step (l .i) (c .word-u8 .result) (wordAt (a .order) 8 (a .total) (a .xs .now)) (a .words .now) (l .words) (omega arith) word (l .inv .2))
-
-same-length : tie.Need-same-length Inv-loop μ-loop
-same-length c = c .before .loop .inv .1
-
-returns : tie.Need-returns Inv-loop μ-loop
+returns : tie.Need-returns
 returns c =
 
-    let l = c .before .loop in
-    let a = c .before .before .before .before .before .before .args in
+    let p = c .before .before .before .before .before .before in
+    let m = p .before .before in
+    let a = m .before .before .before .before .before .before .args in
+    let n = m .before .before .min .result in
+    let full = m .min3 .result in
     let f = wordAt (a .order) 8 (a .total) (a .xs .now) in
-    store-stop (l .i) (wordCount 8 (a .total)) f f (a .words .now) (l .words) (omega arith) (λ (h : l .i < wordCount 8 (a .total)). omega arith) (λ j h. refl) (l .inv .2)
+    let count : wordCount 8 (4 * full) ≡ full = omega arith in
+    let fits : 4 * full ≤ a .total = omega arith in
+    let first = p .pack-full-u8 .ensures ∙ ap (λ (l : List ℕ). laid l (a .words .now)) (words-prefix (a .order) 8 (a .total) full (a .xs .now) count fits) in
+    store-stop n (wordCount 8 (a .total)) f f (a .words .now) _ (omega arith) (λ (h : n < wordCount 8 (a .total)). omega arith) (λ j h. refl) (c .before .before .pack-rest-u8 .ensures (a .words .now) first)
 
 pub pack-words-u8-spec : {M : Type 1} → statement M
 pack-words-u8-spec =
     tie.close
     (tie.spec
-    Inv-loop
-    μ-loop
     word-count-requires
     min-requires
-    loop-holds
-    mul-min
-    sub-min
     min-requires-2
-    mul-word-u8
-    word-u8-requires
-    mul-words
-    slice-write-words
-    add-i
-    loop-less
-    loop-again
+    min-requires-3
+    pack-full-u8-requires
+    pack-rest-u8-requires
     same-length
     returns)

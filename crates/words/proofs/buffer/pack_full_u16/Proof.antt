@@ -1,0 +1,100 @@
+-- `pack_full_u16` meets its contract. The loop's invariant: the words so far are laid.
+-- Assumes nothing.
+use Prim.Native.Nat.{ℕ, _≤_, _<_, _+_, _*_, _-_}
+use mathlib.Core.List.{[], _∷_}
+use mathlib.Core.Path.{_≡_, refl, ap, sym, _∙_}
+use native.Mathlib.Nat.{add-zero}
+use native.Mathlib.Omega.{arith}
+use lib.ListN.{length, getD, length-set}
+use Rattle.words.specs.Word.{pack}
+use Rattle.words.specs.Buffer.{laid, upTo, wordAt, wordCount}
+use Rattle.words.proofs.BufferLaws.{store-step, store-stop, word-whole}
+use borrow.Author.Needs.{needs}
+use Rattle.words.proofs.buffer.pack_full_u16.Statement.{statement}
+use Rattle.words.proofs.buffer.pack_full_u16.Tie as tie
+
+abbrev Inv-loop : tie.InvT-loop
+Inv-loop order xs n words₀ i₀ words i = (i ≤ n) × (length words ≡ length words₀) × (words ≡ laid (upTo i (wordAt order 16 (2 * n) xs)) words₀)
+
+abbrev μ-loop : tie.MeasureT-loop
+μ-loop order xs n words₀ i₀ words i = n - i
+
+loop-holds : tie.Need-loop-holds Inv-loop μ-loop
+loop-holds c = (omega arith, refl, refl)
+
+mul-at : tie.Need-mul-at Inv-loop μ-loop
+mul-at c = omega arith
+
+mul-full-u16 : tie.Need-mul-full-u16 Inv-loop μ-loop
+mul-full-u16 c = omega arith
+
+shared-slice-read-full-u16 : tie.Need-shared-slice-read-full-u16 Inv-loop μ-loop
+shared-slice-read-full-u16 c = omega arith
+
+add-full-u16 : tie.Need-add-full-u16 Inv-loop μ-loop
+add-full-u16 c = omega arith
+
+mul-full-u16-2 : tie.Need-mul-full-u16-2 Inv-loop μ-loop
+mul-full-u16-2 c = omega arith
+
+shared-slice-read-full-u16-2 : tie.Need-shared-slice-read-full-u16-2 Inv-loop μ-loop
+shared-slice-read-full-u16-2 c = omega arith
+
+full-u16-requires : tie.Need-full-u16-requires Inv-loop μ-loop
+full-u16-requires c κs = search needs
+
+mul-words : tie.Need-mul-words Inv-loop μ-loop
+mul-words c = omega arith
+
+slice-write-words : tie.Need-slice-write-words Inv-loop μ-loop
+slice-write-words c = omega arith
+
+add-i : tie.Need-add-i Inv-loop μ-loop
+add-i c = omega arith
+
+loop-less : tie.Need-loop-less Inv-loop μ-loop
+loop-less c = omega arith
+
+loop-again : tie.Need-loop-again Inv-loop μ-loop
+loop-again c =
+
+    let p = c .before .before .before .before in
+    let l = p .loop in
+    let a = p .before .before .before .args in
+    let xs = a .xs .now in
+    let at = 2 * l .i in
+    let word = c .full-u16 .ensures ∙ ap (λ (m : ℕ). pack (a .order) 16 (getD xs m 0 ∷ getD xs (at + 1) 0 ∷ [])) (sym (add-zero at)) ∙ word-whole (a .order) 16 (2 * a .n) (l .i) at xs refl (omega arith) (omega arith) in
+    (omega arith, length-set (l .words) (l .i) (c .full-u16 .result) ∙ l .inv .1, store-step (l .i) (c .full-u16 .result) (wordAt (a .order) 16 (2 * a .n) xs) (a .words .now) (l .words) (omega arith) word (l .inv .2))
+
+same-length : tie.Need-same-length Inv-loop μ-loop
+same-length c = c .before .loop .inv .1
+
+returns : tie.Need-returns Inv-loop μ-loop
+returns c =
+
+    let l = c .before .loop in
+    let a = c .before .before .before .before .args in
+    let f = wordAt (a .order) 16 (2 * a .n) (a .xs .now) in
+    store-stop (l .i) (wordCount 16 (2 * a .n)) f f (a .words .now) (l .words) (omega arith) (λ (h : l .i < wordCount 16 (2 * a .n)). omega arith) (λ j h. refl) (l .inv .2)
+
+pub pack-full-u16-spec : {M : Type 1} → statement M
+pack-full-u16-spec =
+    tie.close
+    (tie.spec
+    Inv-loop
+    μ-loop
+    loop-holds
+    mul-at
+    mul-full-u16
+    shared-slice-read-full-u16
+    add-full-u16
+    mul-full-u16-2
+    shared-slice-read-full-u16-2
+    full-u16-requires
+    mul-words
+    slice-write-words
+    add-i
+    loop-less
+    loop-again
+    same-length
+    returns)
