@@ -275,10 +275,10 @@ unpack-stop o k total n ws bs h s =
     by-order (length ws) n
     (λ l. ap (λ (x : List ℕ). laid (unpackWords o k total x) bs) (take-all n ws l))
     (λ l. by-order total (perWord k * n)
-      (λ t. ap (λ (x : List ℕ). laid x bs) (sym (split ∙ ap (λ (x : List ℕ). front ++ x) (ap (λ (m : ℕ). unpackWords o k m (drop n ws)) (sub-eq-zero-of-le t) ∙ unpack-nothing o k (drop n ws)) ∙ append-nil front)))
-      (λ (t : perWord k * n < total).
-        let m = s l in
-        sym (ap (λ (x : List ℕ). laid x bs) split ∙ laid-dropped front (unpackWords o k (total - perWord k * n) (drop n ws)) bs (omega (arith, unpack-length o k total n ws h (omega arith))))))
+    (λ t. ap (λ (x : List ℕ). laid x bs) (sym (split ∙ ap (λ (x : List ℕ). front ++ x) (ap (λ (m : ℕ). unpackWords o k m (drop n ws)) (sub-eq-zero-of-le t) ∙ unpack-nothing o k (drop n ws)) ∙ append-nil front)))
+    (λ (t : perWord k * n < total).
+    let m = s l in
+    sym (ap (λ (x : List ℕ). laid x bs) split ∙ laid-dropped front (unpackWords o k (total - perWord k * n) (drop n ws)) bs (omega (arith, unpack-length o k total n ws h (omega arith))))))
   where
     front : List ℕ
     front = unpackWords o k total (take n ws)
@@ -346,8 +346,8 @@ unpack-packed o k (suc m) total xs b h =
     let c = min (perWord k) total in
     let word : wordAt o k total xs 0 ≡ pack o k (filled (dummy k) c xs) = rw (mul-zero (perWord k), sub-zero total) in
     let here : unpack o k c (pack o k (filled (dummy k) c xs)) ≡ filled (dummy k) c xs =
-        subst (λ (n : ℕ). unpack o k n (pack o k (filled (dummy k) c xs)) ≡ filled (dummy k) c xs) (length-filled (dummy k) c xs)
-        (unpack-pack o k (filled (dummy k) c xs) (elements-filled k (dummy k) c xs (ones-lt k) b)) in
+    subst (λ (n : ℕ). unpack o k n (pack o k (filled (dummy k) c xs)) ≡ filled (dummy k) c xs) (length-filled (dummy k) c xs)
+    (unpack-pack o k (filled (dummy k) c xs) (elements-filled k (dummy k) c xs (ones-lt k) b)) in
     let there = unpack-packed o k m (total - perWord k) (drop (perWord k) xs) (elements-drop k (perWord k) xs b) (omega (arith, mul-suc (perWord k) m)) in
     ap₂ (λ (a l : List ℕ). a ++ l) (ap (unpack o k c) word ∙ here)
     (ap (unpackWords o k (total - perWord k)) (upTo-same m (λ i. wordAt o k total xs (suc i)) (wordAt o k (total - perWord k) (drop (perWord k) xs)) (λ i l. word-suc o k total i xs)) ∙ there)
@@ -364,8 +364,8 @@ drop-unpacked o k total w ws =
     by-order (perWord k) total
     (λ (l : perWord k ≤ total). drop-at here later (perWord k) (length-unpack o k (min (perWord k) total) w ∙ omega arith))
     (λ (l : total < perWord k).
-      let none : later ≡ [] = ap (λ (m : ℕ). unpackWords o k m ws) (sub-eq-zero-of-le {n = total} {m = perWord k} (omega arith)) ∙ unpack-nothing o k ws in
-      ap (λ (x : List ℕ). drop (perWord k) (here ++ x)) none ∙ drop-of-length-le (here ++ []) {i = perWord k} (omega (arith, length-append here [], length-unpack o k (min (perWord k) total) w)) ∙ sym none)
+    let none : later ≡ [] = ap (λ (m : ℕ). unpackWords o k m ws) (sub-eq-zero-of-le {n = total} {m = perWord k} (omega arith)) ∙ unpack-nothing o k ws in
+    ap (λ (x : List ℕ). drop (perWord k) (here ++ x)) none ∙ drop-of-length-le (here ++ []) {i = perWord k} (omega (arith, length-append here [], length-unpack o k (min (perWord k) total) w)) ∙ sym none)
   where
     here : List ℕ
     here = unpack o k (min (perWord k) total) w
@@ -380,8 +380,8 @@ word-unpacked o k total i [] h = absurd (omega arith)
 word-unpacked o k total zero (w ∷ ws) h =
     let c = min (perWord k) total in
     let front : filled (dummy k) c (unpack o k c w ++ unpackWords o k (total - perWord k) ws) ≡ unpack o k c w =
-        subst (λ (n : ℕ). filled (dummy k) n (unpack o k c w ++ unpackWords o k (total - perWord k) ws) ≡ unpack o k c w) (length-unpack o k c w)
-        (filled-front (dummy k) (unpack o k c w) (unpackWords o k (total - perWord k) ws)) in
+    subst (λ (n : ℕ). filled (dummy k) n (unpack o k c w ++ unpackWords o k (total - perWord k) ws) ≡ unpack o k c w) (length-unpack o k c w)
+    (filled-front (dummy k) (unpack o k c w) (unpackWords o k (total - perWord k) ws)) in
     rw (mul-zero (perWord k), sub-zero total) (ap (pack o k) front ∙ pack-unpack o k c w)
 word-unpacked o k total (suc i) (w ∷ ws) h =
     word-suc o k total i (unpackWords o k total (w ∷ ws))

@@ -63,7 +63,14 @@ fn pack_full_u16(order: BitOrder, xs: &[u16], n: usize, words: &mut [u32])
 }
 
 // Words `from` to `n`, after those before them.
-fn pack_rest_u16(order: BitOrder, xs: &[u16], total: usize, from: usize, n: usize, words: &mut [u32])
+fn pack_rest_u16(
+    order: BitOrder,
+    xs: &[u16],
+    total: usize,
+    from: usize,
+    n: usize,
+    words: &mut [u32],
+)
     requires { ⌜ (from ≤ n) × (n ≤ length (now words)) × (n ≤ wordCount 16 total) ⌝ }
     ensures { λ _. ⌜ ((ws : List ℕ) → now (words .entry) ≡ laid (upTo from (wordAt order 16 total (now (xs .entry)))) ws → now (words .exit) ≡ laid (upTo n (wordAt order 16 total (now (xs .entry)))) ws) ⌝ }
 {

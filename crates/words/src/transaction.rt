@@ -4,13 +4,13 @@ ghost use Prim.Native.Nat.{_*_, _≤_};
 ghost use lib.ListN.{length};
 ghost use Rattle.words.specs.Command.{flagOf, orderOf, pcsOf, polarityOf, phaseOf, setFlag, setOrder, setMode, setPcs, frameAccepted, commandAnswer, framed};
 ghost use Rattle.manual.specs.declared.Tcr.the-variants.{BYSW, RXMSK, TXMSK, CONT, CONTC};
-use manual::Field;
-use manual::Tcr;
 use super::mode::Mode;
 use super::mode::Pcs;
 use super::mode::Phase;
 use super::mode::Polarity;
 use super::order::BitOrder;
+use manual::Field;
+use manual::Tcr;
 
 // Data direction.
 pub enum Direction {

@@ -18,7 +18,6 @@ enum-told c = search needs
 
 returns : tie.Need-returns
 returns c =
-
     let found = c .before .before .before .args .word .now in
     ap (λ (x : ClockAnswer). kept (answered (x .number) (clockWord (x .configs))) found) (ap clockAnswer (sym (c .enum-told .given .1)) ∙ c .before .before .from-hz .ensures)
 
@@ -27,7 +26,6 @@ as-raw-requires c κs = search needs
 
 returns-2 : tie.Need-returns-2
 returns-2 c =
-
     let found = c .before .before .before .before .before .args .word .now in
     ap (answered 0) (c .as-raw .ensures)
     ∙ ap (λ (x : ClockAnswer). kept (answered (x .number) (clockWord (x .configs))) found) (ap clockAnswer (sym (c .before .before .configs .given .1)) ∙ c .before .before .before .before .from-hz .ensures)

@@ -29,7 +29,6 @@ moded x y = record { polarity = x; phase = y }
 
 returns : tie.Need-returns
 returns c =
-
     let a = c .before .before .before .args in
     let no = refused-size (a .frame-size) (c .enum-told .given .0 .0) (ap commandAnswer (sym (c .enum-told .given .1)) ∙ c .before .before .new .ensures) in
     rw no

@@ -23,14 +23,12 @@ enum-told c = search needs
 
 returns : tie.Need-returns
 returns c =
-
     let p = c .before .before in
     let a = p .before .before .before .args in
     ap (λ (x : Answer). kept x (a .word .now)) (ap packAnswer (sym (c .enum-told .given .1)) ∙ p .pack-u8 .ensures ∙ ap (λ (o : BitOrder). packed o 8 (a .bytes .now)) (p .before .order-of .ensures))
 
 returns-2 : tie.Need-returns-2
 returns-2 c =
-
     let p = c .before .before .before in
     let a = p .before .before .before .args in
     ap (λ (x : Answer). kept x (a .word .now)) (ap packAnswer (sym (c .before .w .given .1)) ∙ p .pack-u8 .ensures ∙ ap (λ (o : BitOrder). packed o 8 (a .bytes .now)) (p .before .order-of .ensures))

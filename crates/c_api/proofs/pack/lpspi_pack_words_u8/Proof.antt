@@ -18,7 +18,6 @@ same-length c = search needs
 
 returns : tie.Need-returns
 returns c =
-
     let a = c .before .before .before .before .before .before .before .args in
     c .before .before .pack-words-u8 .ensures
     ∙ ap (λ (o : BitOrder). laid (packWords o 8 (a .total) (a .bytes .now)) (a .words .now)) (c .before .before .before .before .order-of .ensures)

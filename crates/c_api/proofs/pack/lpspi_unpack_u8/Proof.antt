@@ -26,7 +26,6 @@ same-length c = search needs
 
 returns : tie.Need-returns
 returns c =
-
     let p = c .before .before .before .before in
     let a = p .before .before .before .before .args in
     (ap unpackNumber (sym (c .enum-told2 .given .1)) ∙ p .unpack-u8 .ensures .0, p .unpack-u8 .ensures .1 ∙ ap (λ (o : BitOrder). unpacked o 8 (a .count) (a .word) (a .bytes .now)) (p .before .before .order-of .ensures))
@@ -36,7 +35,6 @@ same-length-2 c = search needs
 
 returns-2 : tie.Need-returns-2
 returns-2 c =
-
     let p = c .before .before .before .before in
     let a = p .before .before .before .before .args in
     (ap unpackNumber (sym (c .enum-told .given .1)) ∙ p .unpack-u8 .ensures .0, p .unpack-u8 .ensures .1 ∙ ap (λ (o : BitOrder). unpacked o 8 (a .count) (a .word) (a .bytes .now)) (p .before .before .order-of .ensures))

@@ -18,7 +18,6 @@ same-length c = search needs
 
 returns : tie.Need-returns
 returns c =
-
     let a = c .before .before .before .before .before .before .before .args in
     c .before .before .unpack-words-u8 .ensures
     ∙ ap (λ (o : BitOrder). laid (unpackWords o 8 (a .total) (a .words .now)) (a .bytes .now)) (c .before .before .before .before .order-of .ensures)

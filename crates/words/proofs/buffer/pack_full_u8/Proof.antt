@@ -63,7 +63,6 @@ loop-less c = omega arith
 
 loop-again : tie.Need-loop-again Inv-loop μ-loop
 loop-again c =
-
     let p = c .before .before .before .before .before .before in
     let l = p .loop in
     let a = p .before .before .before .args in
@@ -77,7 +76,6 @@ same-length c = c .before .loop .inv .1
 
 returns : tie.Need-returns Inv-loop μ-loop
 returns c =
-
     let l = c .before .loop in
     let a = c .before .before .before .before .args in
     let f = wordAt (a .order) 8 (4 * a .n) (a .xs .now) in

@@ -53,8 +53,7 @@ loop-again c =
     let l = c .before .before .before .loop in
     let a = c .before .before .before .before .before .before .args in
     let f = wordAt (a .order) 16 (a .total) (a .xs .now) in
-    let word = c .word-u16 .ensures ∙ ap (λ (n : ℕ). pack (a .order) 16 (filled (dummy 16) n (drop (2 * l .i) (a .xs .now)))) (c .before .min .ensures) in
-    (
+    let word = c .word-u16 .ensures ∙ ap (λ (n : ℕ). pack (a .order) 16 (filled (dummy 16) n (drop (2 * l .i) (a .xs .now)))) (c .before .min .ensures) in (
       omega arith,
       length-set (l .words) (l .i) (c .word-u16 .result) ∙ l .inv .1,
       λ ws e. store-step (l .i) (c .word-u16 .result) f ws (l .words) (omega (arith, ap length e ∙ length-laid (upTo (a .from) f) ws)) word (l .inv .2 ws e),

@@ -34,7 +34,6 @@ same-length c = search needs
 
 returns : tie.Need-returns
 returns c =
-
     let p = c .before .before .before .before .before .before in
     let m = p .before .before in
     let a = m .before .before .before .before .before .before .args in

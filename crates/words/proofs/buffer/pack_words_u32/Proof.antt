@@ -39,7 +39,6 @@ loop-less c = omega arith
 
 loop-again : tie.Need-loop-again Inv-loop μ-loop
 loop-again c =
-
     let l = c .before .before .loop in
     let a = c .before .before .before .before .before .before .args in
     (omega arith, length-set (l .words) (l .i) (c .element-u32 .result) ∙ l .inv .1, store-step (l .i) (c .element-u32 .result) (λ (j : ℕ). getD (a .xs .now) j (dummy 32)) (a .words .now) (l .words) (omega arith) (c .element-u32 .ensures) (l .inv .2))
@@ -49,7 +48,6 @@ same-length c = c .before .loop .inv .1
 
 returns : tie.Need-returns Inv-loop μ-loop
 returns c =
-
     let l = c .before .loop in
     let a = c .before .before .before .before .before .args in
     store-stop (l .i) (wordCount 32 (a .total)) (λ (j : ℕ). getD (a .xs .now) j (dummy 32)) (wordAt (a .order) 32 (a .total) (a .xs .now)) (a .words .now) (l .words) (omega arith) (λ (h : l .i < wordCount 32 (a .total)). omega arith) (λ (j : ℕ) (h : j < wordCount 32 (a .total)). word-32 (a .order) (a .total) j (a .xs .now) (omega arith)) (l .inv .2)

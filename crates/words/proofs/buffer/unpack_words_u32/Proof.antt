@@ -46,7 +46,6 @@ loop-less c = omega arith
 
 loop-again : tie.Need-loop-again Inv-loop μ-loop
 loop-again c =
-
     let l = c .before .before .loop in
     let a = c .before .before .before .before .before .before .before .args in
     let x = getD (a .words .now) (l .i) 0 in
@@ -57,7 +56,6 @@ same-length c = c .before .loop .inv .1
 
 returns : tie.Need-returns Inv-loop μ-loop
 returns c =
-
     let l = c .before .loop in
     let a = c .before .before .before .before .before .before .args in
     let f : ℕ → ℕ = λ j. getD (a .words .now) j 0 in

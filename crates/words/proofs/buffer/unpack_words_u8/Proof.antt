@@ -59,7 +59,6 @@ part-spread-u8-end c = search needs
 
 spread-u8-requires : tie.Need-spread-u8-requires Inv-loop μ-loop
 spread-u8-requires c κs =
-
     let m = c .before .before .min3 in
     rw (m .ensures) (min-le-left 4 _)
 
@@ -71,7 +70,6 @@ loop-less c = falls _ _ (c .before .before .before .before .before .before .loop
 
 loop-again : tie.Need-loop-again Inv-loop μ-loop
 loop-again c =
-
     let s = c .before .before .spread-u8 in
     let m = c .before .before .before .before .before .min3 in
     let t = c .before .before .before .before .before .before .loop-test .taken in
@@ -86,7 +84,6 @@ same-length c = c .before .loop .inv .1
 
 returns : tie.Need-returns Inv-loop μ-loop
 returns c =
-
     let p = c .before in
     let l = p .loop in
     let a = p .before .before .before .before .before .before .args in

@@ -9,7 +9,6 @@ use Rattle.words.proofs.pack.bytes.Tie as tie
 
 returns : tie.Need-returns
 returns c =
-
     let x = c .args in
     let f = c .fits in
     rw (shl-or (x .c) (x .d) 8 8 (f .c .fits) (f .d .fits) (lit≤ tt), shl-or (x .b) (x .c * 2 ^ 8 + x .d) 8 16 (f .b .fits) (omega arith) (lit≤ tt))

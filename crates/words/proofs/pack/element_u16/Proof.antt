@@ -20,7 +20,6 @@ cast-result c = omega (arith, c .shared-slice-known .given (c .before .before .a
 
 returns : tie.Need-returns
 returns c =
-
     let a = c .before .before .args in
     (within (a .xs .now) (a .at) 0 65535 (c .before .if1 .taken), c .shared-slice-known .given (a .at) .fits)
 

@@ -16,7 +16,6 @@ word-u16-requires c κs = search needs
 
 returns-2 : tie.Need-returns-2
 returns-2 c =
-
     let a = c .before .before .before .args in
     packed-few (a .order) 16 (c .word-u16 .result) (a .xs .now) (c .before .if1 .left) (c .word-u16 .ensures ∙ ap (pack (a .order) 16) (filled-all (dummy 16) (a .xs .now)))
 

@@ -11,7 +11,6 @@ returns c = packed-many (c .before .args .order) 32 (c .before .args .xs .now) (
 
 returns-2 : tie.Need-returns-2
 returns-2 c =
-
     let a = c .before .before .args in
     packed-few (a .order) 32 0 (a .xs .now) (c .before .if1 .left) (word-none (a .order) 32 (a .xs .now) (c .if2 .taken))
 
@@ -20,7 +19,6 @@ shared-slice-read-t6 c = search needs
 
 returns-3 : tie.Need-returns-3
 returns-3 c =
-
     let a = c .before .before .before .args in
     packed-few (a .order) 32 (getD (a .xs .now) 0 0) (a .xs .now) (c .before .before .if1 .left) (word-single (a .order) (a .xs .now) (c .before .before .if1 .left) (c .before .if2 .left))
 

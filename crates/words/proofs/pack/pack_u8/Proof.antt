@@ -16,7 +16,6 @@ word-u8-requires c κs = search needs
 
 returns-2 : tie.Need-returns-2
 returns-2 c =
-
     let a = c .before .before .before .args in
     packed-few (a .order) 8 (c .word-u8 .result) (a .xs .now) (c .before .if1 .left) (c .word-u8 .ensures ∙ ap (pack (a .order) 8) (filled-all (dummy 8) (a .xs .now)))
 

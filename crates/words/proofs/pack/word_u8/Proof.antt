@@ -29,7 +29,6 @@ element-u8-requires c κs = search needs
 
 append-requires : tie.Need-append-requires Inv-loop μ-loop
 append-requires c κs =
-
     let l = c .before .before .loop in
     let a = c .before .before .before .before .args in
     let bytes = elements-drop 8 (a .at) (a .xs .now) (λ j. c .before .before .before .shared-slice-known .given j .fits) in
@@ -43,7 +42,6 @@ loop-less c = omega arith
 
 loop-again : tie.Need-loop-again Inv-loop μ-loop
 loop-again c =
-
     let l = c .before .before .before .loop in
     let a = c .before .before .before .before .before .args in
     let e = c .before .element-u8 in
@@ -51,7 +49,6 @@ loop-again c =
 
 returns : tie.Need-returns Inv-loop μ-loop
 returns c =
-
     let l = c .before .loop in
     let a = c .before .before .before .args in
     let e : l .i ≡ a .count = omega arith in

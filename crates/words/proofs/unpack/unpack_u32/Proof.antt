@@ -20,13 +20,11 @@ same-length c = search needs
 
 returns-2 : tie.Need-returns-2
 returns-2 c =
-
     let a = c .before .before .args in
     unpacked-few (a .order) 32 (a .count) 1 (a .word) (a .out .now) (set (a .out .now) 0 (a .word)) (c .before .if1 .left) refl (laid-one (a .order) (a .word) (a .out .now) (c .before .before .fits .word .fits) (c .if2 .taken))
 
 returns-3 : tie.Need-returns-3
 returns-3 c =
-
     let a = c .before .before .args in
     unpacked-few (a .order) 32 (a .count) 1 (a .word) (a .out .now) (a .out .now) (c .before .if1 .left) refl (laid-full (unpack (a .order) 32 1 (a .word)) (a .out .now) (omega arith))
 

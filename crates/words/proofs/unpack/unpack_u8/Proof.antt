@@ -17,7 +17,6 @@ same-length c = search needs
 
 returns-2 : tie.Need-returns-2
 returns-2 c =
-
     let a = c .before .before .before .before .before .before .args in
     let s = c .before .before .spread-u8 in
     unpacked-few (a .order) 8 (a .count) (a .count) (a .word) (a .out .now) (s .last .1 .1 .1 .0) (c .before .before .before .before .if1 .left) refl (s .ensures)

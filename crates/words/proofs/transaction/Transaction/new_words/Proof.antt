@@ -10,7 +10,6 @@ use Rattle.words.proofs.transaction.Transaction.new_words.Tie as tie
 
 returns : tie.Need-returns
 returns c =
-
     let a = c .before .args in
     framed-long (a .bits * a .len) (omega (arith, mul-le-mul {n₁ = 8} {m₁ = 513} {n₂ = a .bits} {m₂ = a .len} (c .before .pre .0) (omega arith)))
 

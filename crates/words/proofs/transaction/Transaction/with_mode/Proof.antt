@@ -23,7 +23,6 @@ set-requires-2 c κs = search needs
 
 returns : tie.Need-returns
 returns c =
-
     let word = c .before .before .before .before .args .self .0 in
     c .set2 .ensures
     ∙ ap₂ (setField (Tcr CPOL)) (c .before .cpol .ensures) (c .before .before .set .ensures ∙ ap (λ (v : ℕ). setField (Tcr CPHA) v word) (c .before .before .before .cpha .ensures))

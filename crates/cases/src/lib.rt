@@ -1,0 +1,1 @@
+// The proved examples of document 01: the list is in specs/, its one proof in proofs/.

@@ -1,0 +1,163 @@
+// Computes the examples of document 01 and prints them: words, commands, clocks and what is refused.
+use libc::STDOUT_FILENO;
+use words::buffer::pack_words_u8;
+use words::buffer::pack_words_u16;
+use words::buffer::unpack_words_u8;
+use words::clock::ClockConfigs;
+use words::clock::ClockResult;
+use words::mode::MODE_3;
+use words::mode::Pcs;
+use words::order::BitOrder;
+use words::pack::PackResult;
+use words::pack::pack_u8;
+use words::transaction::Transaction;
+use words::transaction::TransactionResult;
+
+fn text(bytes: &[u8]) {
+    io::write_all(STDOUT_FILENO, bytes);
+}
+
+// A hexadecimal digit, in capitals.
+fn digit(n: u32) -> u8 {
+    let d = (n % 16) as u8;
+    if d < 10 { 48 + d } else { 55 + d }
+}
+
+fn word(w: u32) {
+    let digits = [
+        b' ',
+        digit(w / 0x1000_0000),
+        digit(w / 0x100_0000),
+        digit(w / 0x10_0000),
+        digit(w / 0x1_0000),
+        digit(w / 0x1000),
+        digit(w / 0x100),
+        digit(w / 0x10),
+        digit(w),
+    ];
+    text(&digits);
+}
+
+fn byte(b: u8) {
+    word(b as u32);
+}
+
+fn number(n: u64) {
+    text(b" ");
+    io::print_decimal(STDOUT_FILENO, n);
+}
+
+fn two_words(words: [u32; 2]) {
+    word(words[0]);
+    word(words[1]);
+    text(b"\n");
+}
+
+fn show_words() {
+    let five = [0x11u8, 0x22, 0x33, 0x44, 0x55];
+    let mut words = [0u32; 2];
+    text(b"pack 8 M 11 22 33 44 55:");
+    pack_words_u8(BitOrder::Msb, &five, 5, &mut words);
+    two_words(words);
+    text(b"pack 8 L 11 22 33 44 55:");
+    pack_words_u8(BitOrder::Lsb, &five, 5, &mut words);
+    two_words(words);
+}
+
+fn show_short_words() {
+    let mut one = [0u32; 1];
+    let three = [0x11u8, 0x22, 0x33];
+    text(b"pack 8 M 11 22 33:");
+    pack_words_u8(BitOrder::Msb, &three, 3, &mut one);
+    word(one[0]);
+    let halves = [0x1122u16, 0x3344];
+    text(b"\npack 16 L 1122 3344:");
+    pack_words_u16(BitOrder::Lsb, &halves, 2, &mut one);
+    word(one[0]);
+    text(b"\n");
+}
+
+// Elements that are missing, elements that are dropped, and a word of too many.
+fn show_unequal_lengths() {
+    let sent = [0xAAu8, 0xBB];
+    let mut words = [0u32; 2];
+    text(b"send 8 M AA BB of 6:");
+    pack_words_u8(BitOrder::Msb, &sent, 6, &mut words);
+    two_words(words);
+    let received = [0x1122_3344u32];
+    let mut read = [0u8; 1];
+    text(b"read 8 M 1 of 4 in 11223344:");
+    unpack_words_u8(BitOrder::Msb, &received, 4, &mut read);
+    byte(read[0]);
+    let five = [0x11u8, 0x22, 0x33, 0x44, 0x55];
+    text(b"\npack 5 bytes in a word:");
+    let PackResult::Word(w) = pack_u8(BitOrder::Msb, &five) else {
+        text(b" refused, 8\n");
+        return;
+    };
+    word(w);
+    text(b"\n");
+}
+
+fn command(r: TransactionResult) {
+    let TransactionResult::Ok(t) = r else {
+        text(b": refused, 1\n");
+        return;
+    };
+    text(b":");
+    word(t.as_raw());
+    text(b"\n");
+}
+
+fn frame(bits: u16) {
+    text(b"frame of");
+    number(bits as u64);
+    command(Transaction::new(bits));
+}
+
+fn show_commands() {
+    frame(7);
+    frame(33);
+    frame(4065);
+    frame(4097);
+    frame(8);
+    frame(4096);
+    text(b"frame of no words");
+    let nothing = [0u32; 1];
+    command(Transaction::new_u32s(&nothing[..0]));
+    text(b"frame of 40, L, mode 3, PCS 2");
+    let TransactionResult::Ok(t) = Transaction::new(40) else {
+        return;
+    };
+    command(TransactionResult::Ok(
+        t.with_bit_order(BitOrder::Lsb)
+            .with_mode(MODE_3)
+            .with_pcs(Pcs::Pcs2),
+    ));
+}
+
+fn clock(source: u32, wanted: u32) {
+    text(b"clock");
+    number(source as u64);
+    text(b" for");
+    number(wanted as u64);
+    let ClockResult::Ok(configs) = ClockConfigs::from_hz(source, wanted) else {
+        text(b": refused, 6\n");
+        return;
+    };
+    text(b":");
+    word(configs.as_raw());
+    text(b", SCK");
+    number(source as u64 / (configs.sckdiv as u64 + 2));
+    text(b" Hz\n");
+}
+
+fn main() {
+    show_words();
+    show_short_words();
+    show_unequal_lengths();
+    show_commands();
+    clock(60_000_000, 4_000_000);
+    clock(60_000_000, 100_000);
+    clock(60_000_000, 0);
+}
