@@ -60,7 +60,7 @@ for name, section in sections.items():
         need, args = m.group(1), m.group(2)
         ans = section['ans'].get(need, section['ans'].get('*', '?'))
         unf = section['unf'].get(need)
-        return (unf + '\n' if unf else '') + need + args + ' =' + ('\n' if ans.startswith('\n') else ' ') + ans
+        return (unf + '\n' if unf else '') + need + args + ' =' + ('' if ans.startswith('\n') else ' ') + ans
 
     body = re.sub(r'(?m)^(\S+)((?: [^=\n]+)?) =\s+\?$', answer, body)
     cited = body + '\n'.join(section['use'])

@@ -1,6 +1,7 @@
 // The packing and unpacking of bytes.
 ghost use mathlib.Core.Path.{_≡_};
-ghost use Rattle.words.specs.Buffer.{laid, packed, unpackedNumber, unpacked, packWords, unpackWords};
+ghost use Rattle.words.specs.Word.{laid, packed, unpackedNumber, unpacked};
+ghost use Rattle.words.specs.Buffer.{packWords, unpackWords};
 ghost use Rattle.c_api.specs.Host.{orderOf, answered, kept};
 use super::command::order_of;
 use words::buffer::pack_words_u8;

@@ -5,7 +5,11 @@ use words::buffer::pack_words_u16;
 use words::buffer::unpack_words_u8;
 use words::clock::ClockConfigs;
 use words::clock::ClockResult;
+use words::mode::MODE_0;
+use words::mode::MODE_1;
+use words::mode::MODE_2;
 use words::mode::MODE_3;
+use words::mode::Mode;
 use words::mode::Pcs;
 use words::order::BitOrder;
 use words::pack::PackResult;
@@ -115,6 +119,24 @@ fn frame(bits: u16) {
     command(Transaction::new(bits));
 }
 
+fn frame_in_mode(mode: Mode) {
+    let TransactionResult::Ok(t) = Transaction::new(8) else {
+        return;
+    };
+    command(TransactionResult::Ok(t.with_mode(mode)));
+}
+
+fn show_modes() {
+    text(b"frame of 8, mode 0");
+    frame_in_mode(MODE_0);
+    text(b"frame of 8, mode 1");
+    frame_in_mode(MODE_1);
+    text(b"frame of 8, mode 2");
+    frame_in_mode(MODE_2);
+    text(b"frame of 8, mode 3");
+    frame_in_mode(MODE_3);
+}
+
 fn show_commands() {
     frame(7);
     frame(33);
@@ -157,6 +179,7 @@ fn main() {
     show_short_words();
     show_unequal_lengths();
     show_commands();
+    show_modes();
     clock(60_000_000, 4_000_000);
     clock(60_000_000, 100_000);
     clock(60_000_000, 0);

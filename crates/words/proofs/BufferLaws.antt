@@ -15,9 +15,9 @@ use lib.Pow.{pow-pos, ones-lt}
 use lib.Seq.{getD-drop, drop-nil, drop-drop, drop-at, take-all}
 use Rattle.words.specs.declared.order.BitOrder.{BitOrder}
 use Rattle.words.specs.declared.order.BitOrder.the-variants.{Msb, Lsb}
-use Rattle.words.specs.Word.{joined, first, pack, unpack, reversed}
+use Rattle.words.specs.Word.{joined, first, pack, unpack, reversed, perWord, laid, packed, unpackedNumber, unpackCount, unpacked}
 use Rattle.words.specs.Answer.{ok, refused, tooManyNumber}
-use Rattle.words.specs.Buffer.{perWord, dummy, wordCount, countAt, filled, laid, packed, unpackedNumber, given, unpacked, upTo, wordAt, packWords, unpackWords}
+use Rattle.words.specs.Buffer.{dummy, wordCount, countAt, filled, tabulate, wordAt, packWords, unpackWords}
 use Rattle.words.proofs.WordLaws.{Elements, pack-lt, pack-last, unpack-pack, pack-unpack, length-unpack}
 
 -- ELEMENTS
@@ -137,16 +137,16 @@ laid-append (x ∷ xs) ys (b ∷ bs) = ap (λ (l : List ℕ). x ∷ l) (laid-app
 
 -- THE LOOP that stores f 0, f 1, .. from the front on, and stops at the end of the list or of the buffer
 
-laid-store : (n : ℕ) (f : ℕ → ℕ) (bs : List ℕ) → n < length bs → set (laid (upTo n f) bs) n (f n) ≡ laid (upTo (suc n) f) bs
+laid-store : (n : ℕ) (f : ℕ → ℕ) (bs : List ℕ) → n < length bs → set (laid (tabulate n f) bs) n (f n) ≡ laid (tabulate (suc n) f) bs
 laid-store n f [] h = absurd (omega arith)
 laid-store zero f (b ∷ bs) h = refl
 laid-store (suc n) f (b ∷ bs) h = ap (λ (l : List ℕ). f 0 ∷ l) (laid-store n (λ i. f (suc i)) bs (omega arith))
 
-pub store-step : (n x : ℕ) (f : ℕ → ℕ) (bs ws : List ℕ) → n < length bs → x ≡ f n → ws ≡ laid (upTo n f) bs → set ws n x ≡ laid (upTo (n + 1) f) bs
+pub store-step : (n x : ℕ) (f : ℕ → ℕ) (bs ws : List ℕ) → n < length bs → x ≡ f n → ws ≡ laid (tabulate n f) bs → set ws n x ≡ laid (tabulate (n + 1) f) bs
 store-step n x f bs ws h ex ew =
-    ap₂ (λ (l : List ℕ) (y : ℕ). set l n y) ew ex ∙ laid-store n f bs h ∙ ap (λ (m : ℕ). laid (upTo m f) bs) (sym (add-one n))
+    ap₂ (λ (l : List ℕ) (y : ℕ). set l n y) ew ex ∙ laid-store n f bs h ∙ ap (λ (m : ℕ). laid (tabulate m f) bs) (sym (add-one n))
 
-laid-stop : (n m : ℕ) (f : ℕ → ℕ) (bs : List ℕ) → n ≤ m → (n < m → length bs ≤ n) → laid (upTo n f) bs ≡ laid (upTo m f) bs
+laid-stop : (n m : ℕ) (f : ℕ → ℕ) (bs : List ℕ) → n ≤ m → (n < m → length bs ≤ n) → laid (tabulate n f) bs ≡ laid (tabulate m f) bs
 laid-stop zero zero f bs h s = refl
 laid-stop zero (suc m) f [] h s = refl
 laid-stop zero (suc m) f (b ∷ bs) h s = let l = s (omega arith) in absurd (omega arith)
@@ -155,13 +155,13 @@ laid-stop (suc n) (suc m) f [] h s = refl
 laid-stop (suc n) (suc m) f (b ∷ bs) h s =
     ap (λ (l : List ℕ). f 0 ∷ l) (laid-stop n m (λ i. f (suc i)) bs (omega arith) (λ (l : n < m). let t = s (omega arith) in omega arith))
 
-upTo-same : (n : ℕ) (f g : ℕ → ℕ) → ((i : ℕ) → i < n → f i ≡ g i) → upTo n f ≡ upTo n g
-upTo-same zero f g h = refl
-upTo-same (suc n) f g h = ap₂ (λ (x : ℕ) (l : List ℕ). x ∷ l) (h 0 (omega arith)) (upTo-same n (λ i. f (suc i)) (λ i. g (suc i)) (λ i l. h (suc i) (omega arith)))
+tabulate-same : (n : ℕ) (f g : ℕ → ℕ) → ((i : ℕ) → i < n → f i ≡ g i) → tabulate n f ≡ tabulate n g
+tabulate-same zero f g h = refl
+tabulate-same (suc n) f g h = ap₂ (λ (x : ℕ) (l : List ℕ). x ∷ l) (h 0 (omega arith)) (tabulate-same n (λ i. f (suc i)) (λ i. g (suc i)) (λ i l. h (suc i) (omega arith)))
 
 pub store-stop : (n m : ℕ) (f g : ℕ → ℕ) (bs ws : List ℕ) → n ≤ m → (n < m → length bs ≤ n) → ((i : ℕ) → i < m → f i ≡ g i)
-    → ws ≡ laid (upTo n f) bs → ws ≡ laid (upTo m g) bs
-store-stop n m f g bs ws h s e ew = ew ∙ laid-stop n m f bs h s ∙ ap (λ (l : List ℕ). laid l bs) (upTo-same m f g e)
+    → ws ≡ laid (tabulate n f) bs → ws ≡ laid (tabulate m g) bs
+store-stop n m f g bs ws h s e ew = ew ∙ laid-stop n m f bs h s ∙ ap (λ (l : List ℕ). laid l bs) (tabulate-same m f g e)
 
 -- a part of a buffer that comes back with elements laid over it
 put-laid : (at : ℕ) (bs xs ys : List ℕ) → ys ≡ laid xs (take (length bs - at) (drop at bs)) → putMid at (length bs - at) bs ys ≡ take at bs ++ laid xs (drop at bs)
@@ -244,7 +244,7 @@ Unpacked o k c w bs n ys = (n ≡ unpackedNumber k c) × (ys ≡ unpacked o k c 
 pub unpacked-many : (o : BitOrder) (k c w : ℕ) (bs : List ℕ) → perWord k < c → Unpacked o k c w bs tooManyNumber bs
 unpacked-many o k c w bs h = let e = lt-leb c (perWord k) h in (simp e, simp e)
 
-pub unpacked-few : (o : BitOrder) (k c n w : ℕ) (bs ys : List ℕ) → c ≤ perWord k → given k c ≡ n → ys ≡ laid (unpack o k n w) bs → Unpacked o k c w bs 0 ys
+pub unpacked-few : (o : BitOrder) (k c n w : ℕ) (bs ys : List ℕ) → c ≤ perWord k → unpackCount k c ≡ n → ys ≡ laid (unpack o k n w) bs → Unpacked o k c w bs 0 ys
 unpacked-few o k c n w bs ys h en ey = let e = le-leb c (perWord k) h in (simp e, ey ∙ ap (λ (m : ℕ). laid (unpack o k m w) bs) (sym en) ∙ simp e)
 
 -- THE LOOP: it lays word i at its place, and may stop where total or buffer end
@@ -287,17 +287,17 @@ unpack-stop o k total n ws bs h s =
     split = unpack-split o k total n ws
 
 -- a whole word of elements that are all there
-filled-whole : (d e n : ℕ) (xs : List ℕ) → n ≤ length xs → filled d n xs ≡ upTo n (λ (j : ℕ). getD xs j e)
+filled-whole : (d e n : ℕ) (xs : List ℕ) → n ≤ length xs → filled d n xs ≡ tabulate n (λ (j : ℕ). getD xs j e)
 filled-whole d e zero xs h = refl
 filled-whole d e (suc n) [] h = absurd (omega arith)
 filled-whole d e (suc n) (x ∷ xs) h = ap (λ (l : List ℕ). x ∷ l) (filled-whole d e n xs (omega arith))
 
 pub word-whole : (o : BitOrder) (k total i at : ℕ) (xs : List ℕ) → at ≡ perWord k * i → at + perWord k ≤ length xs → at + perWord k ≤ total
-    → pack o k (upTo (perWord k) (λ (j : ℕ). getD xs (at + j) 0)) ≡ wordAt o k total xs i
+    → pack o k (tabulate (perWord k) (λ (j : ℕ). getD xs (at + j) 0)) ≡ wordAt o k total xs i
 word-whole o k total i at xs ea hx ht =
     let n : countAt k total i ≡ perWord k = omega arith in
     ap (pack o k)
-    (upTo-same (perWord k) (λ (j : ℕ). getD xs (at + j) 0) (λ (j : ℕ). getD (drop at xs) j 0) (λ j h. sym (getD-drop at xs j 0))
+    (tabulate-same (perWord k) (λ (j : ℕ). getD xs (at + j) 0) (λ (j : ℕ). getD (drop at xs) j 0) (λ j h. sym (getD-drop at xs j 0))
     ∙ sym (filled-whole (dummy k) 0 (perWord k) (drop at xs) (omega (arith, length-drop at xs)))
     ∙ ap₂ (λ (m p : ℕ). filled (dummy k) m (drop p xs)) (sym n) ea)
 
@@ -309,10 +309,10 @@ word-prefix o k total n i xs h l =
     ap (λ (c : ℕ). pack o k (filled (dummy k) c (drop (perWord k * i) xs))) e
 
 pub words-prefix : (o : BitOrder) (k total n : ℕ) (xs : List ℕ) → wordCount k (perWord k * n) ≡ n → perWord k * n ≤ total
-    → packWords o k (perWord k * n) xs ≡ upTo n (wordAt o k total xs)
+    → packWords o k (perWord k * n) xs ≡ tabulate n (wordAt o k total xs)
 words-prefix o k total n xs e l =
-    ap (λ (m : ℕ). upTo m (wordAt o k (perWord k * n) xs)) e
-    ∙ upTo-same n (wordAt o k (perWord k * n) xs) (wordAt o k total xs) (λ i h. word-prefix o k total n i xs h l)
+    ap (λ (m : ℕ). tabulate m (wordAt o k (perWord k * n) xs)) e
+    ∙ tabulate-same n (wordAt o k (perWord k * n) xs) (wordAt o k total xs) (λ i h. word-prefix o k total n i xs h l)
 
 -- width 32: word i is element i
 pub word-32 : (o : BitOrder) (total i : ℕ) (xs : List ℕ) → i < total → getD xs i (dummy 32) ≡ wordAt o 32 total xs i
@@ -324,7 +324,7 @@ word-32 o total i xs h =
     ∙ getD-drop (1 * i) xs 0 (dummy 32) ∙ ap (λ (n : ℕ). getD xs n (dummy 32)) (omega arith))
 
 -- and the elements are the words
-pub unpack-32 : (o : BitOrder) (total : ℕ) (ws : List ℕ) → Elements 32 ws → unpackWords o 32 total ws ≡ upTo (min total (length ws)) (λ (i : ℕ). getD ws i 0)
+pub unpack-32 : (o : BitOrder) (total : ℕ) (ws : List ℕ) → Elements 32 ws → unpackWords o 32 total ws ≡ tabulate (min total (length ws)) (λ (i : ℕ). getD ws i 0)
 unpack-32 o total [] b = rw (min-zero total)
 unpack-32 o zero (w ∷ ws) b = rw (zero-min (suc (length ws))) (unpack-nothing o 32 (w ∷ ws))
 unpack-32 o (suc total) (w ∷ ws) b =
@@ -339,7 +339,7 @@ word-suc o k total i xs =
     rw (left-suc k total i, p, drop-drop)
 
 unpack-packed : (o : BitOrder) (k m total : ℕ) (xs : List ℕ) → Elements k xs → total ≤ perWord k * m
-    → unpackWords o k total (upTo m (wordAt o k total xs)) ≡ filled (dummy k) total xs
+    → unpackWords o k total (tabulate m (wordAt o k total xs)) ≡ filled (dummy k) total xs
 unpack-packed o k zero zero xs b h = refl
 unpack-packed o k zero (suc total) xs b h = absurd (omega (arith, mul-zero (perWord k)))
 unpack-packed o k (suc m) total xs b h =
@@ -350,7 +350,7 @@ unpack-packed o k (suc m) total xs b h =
     (unpack-pack o k (filled (dummy k) c xs) (elements-filled k (dummy k) c xs (ones-lt k) b)) in
     let there = unpack-packed o k m (total - perWord k) (drop (perWord k) xs) (elements-drop k (perWord k) xs b) (omega (arith, mul-suc (perWord k) m)) in
     ap₂ (λ (a l : List ℕ). a ++ l) (ap (unpack o k c) word ∙ here)
-    (ap (unpackWords o k (total - perWord k)) (upTo-same m (λ i. wordAt o k total xs (suc i)) (wordAt o k (total - perWord k) (drop (perWord k) xs)) (λ i l. word-suc o k total i xs)) ∙ there)
+    (ap (unpackWords o k (total - perWord k)) (tabulate-same m (λ i. wordAt o k total xs (suc i)) (wordAt o k (total - perWord k) (drop (perWord k) xs)) (λ i l. word-suc o k total i xs)) ∙ there)
     ∙ sym (filled-split (dummy k) total (perWord k) xs)
 
 -- what was packed is unpacked as the elements of the transfer: those of xs, and dummies
@@ -391,5 +391,5 @@ word-unpacked o k total (suc i) (w ∷ ws) h =
 
 -- what was unpacked is packed as the same words, the places above their elements zero
 pub pack-unpack-words : (o : BitOrder) (k total : ℕ) (ws : List ℕ) → wordCount k total ≤ length ws
-    → packWords o k total (unpackWords o k total ws) ≡ upTo (wordCount k total) (λ i. getD ws i 0 % 2 ^ (k * countAt k total i))
-pack-unpack-words o k total ws h = upTo-same (wordCount k total) (wordAt o k total (unpackWords o k total ws)) (λ i. getD ws i 0 % 2 ^ (k * countAt k total i)) (λ i (l : i < wordCount k total). word-unpacked o k total i ws (omega arith))
+    → packWords o k total (unpackWords o k total ws) ≡ tabulate (wordCount k total) (λ i. getD ws i 0 % 2 ^ (k * countAt k total i))
+pack-unpack-words o k total ws h = tabulate-same (wordCount k total) (wordAt o k total (unpackWords o k total ws)) (λ i. getD ws i 0 % 2 ^ (k * countAt k total i)) (λ i (l : i < wordCount k total). word-unpacked o k total i ws (omega arith))

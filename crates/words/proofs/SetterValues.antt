@@ -1,9 +1,13 @@
--- The values that a setter of the command sets, as `Setter.antt` asks for them.
+-- The types of the values that a setter of the command sets, as `Setter.antt` asks for them.
 -- Assumes nothing.
 use mathlib.Core.Path.{refl}
 use mathlib.Core.List.{[], _∷_}
+use denote.Builtin.{bool}
 use denote.Enum.Laws as EL
+use denote.Plain.{bool-tells, bool-makes}
 use denote.Struct.Laws as LL
+use mir.Syntax.{tyBool}
+use mir.Val.{vbool}
 use Rattle.words.proofs.Setter.{Settable}
 use Rattle.words.proofs.mode.Pcs as Pcs
 use Rattle.words.proofs.mode.Pcs.Laws as Pcs′
@@ -11,6 +15,17 @@ use Rattle.words.proofs.mode.Mode as Mode
 use Rattle.words.proofs.mode.Mode.Laws as Mode′
 use Rattle.words.proofs.order.BitOrder as BitOrder
 use Rattle.words.proofs.order.BitOrder.Laws as BitOrder′
+
+abbrev pub flag : Settable bool
+flag = record {
+  ty = tyBool;
+  val = vbool;
+  tells = bool-tells;
+  typed = λ 𝓤 H A W x is. (tt, tt);
+  makes = λ 𝓤 H A W. bool-makes 𝓤 H A W;
+  last = λ x. tt;
+  silent = λ x w. refl;
+}
 
 abbrev pub pcs : Settable Pcs.the-row
 pcs = record {

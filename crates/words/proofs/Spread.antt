@@ -9,8 +9,7 @@ use borrow.Rule.Slice.PartMut.{midOf, putMid, same-len-mid}
 use lib.ListN.{length, take, drop, set, length-set}
 use lib.Seq.{take-length, drop-length}
 use Rattle.words.specs.declared.order.BitOrder.{BitOrder}
-use Rattle.words.specs.Word.{first, rest, unpack}
-use Rattle.words.specs.Buffer.{laid}
+use Rattle.words.specs.Word.{first, rest, unpack, laid}
 
 pub spread-none : (o : BitOrder) (k n w : ℕ) (bs : List ℕ) → n ≡ 0 → bs ≡ laid (unpack o k n w) bs
 spread-none o k zero w bs e = refl

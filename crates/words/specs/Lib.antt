@@ -1,7 +1,8 @@
-pub mod Width
+-- Read in this order.
 pub mod Answer
 pub mod Word
+pub mod Width
 pub mod Buffer
+pub mod Longer
 pub mod Command
 pub mod Clock
-pub mod Longer

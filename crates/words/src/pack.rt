@@ -4,8 +4,8 @@ ghost use Prim.Native.Nat.{_+_, _*_, _^_, _<_, _≤_};
 ghost use mathlib.Core.List.{[], _∷_};
 ghost use lib.ListN.{length, getD, drop};
 ghost use Rattle.words.specs.Answer.{packAnswer};
-ghost use Rattle.words.specs.Word.{pack};
-ghost use Rattle.words.specs.Buffer.{dummy, filled, packed};
+ghost use Rattle.words.specs.Word.{pack, packed};
+ghost use Rattle.words.specs.Buffer.{dummy, filled};
 use super::order::BitOrder;
 use super::place::append;
 

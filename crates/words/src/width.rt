@@ -1,7 +1,8 @@
 // The three widths of an element: what the Rust has as the trait `Word`.
 ghost use mathlib.Core.Path.{_≡_};
 ghost use Rattle.words.specs.Width.{bitsOf};
-ghost use Rattle.words.specs.Buffer.{perWord, dummy, wordCount};
+ghost use Rattle.words.specs.Word.{perWord};
+ghost use Rattle.words.specs.Buffer.{dummy, wordCount};
 
 pub enum Width {
     U8,

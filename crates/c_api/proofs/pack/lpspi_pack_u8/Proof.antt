@@ -3,7 +3,7 @@
 use mathlib.Core.Path.{ap, sym, _∙_}
 use Rattle.words.specs.declared.order.BitOrder.{BitOrder}
 use Rattle.words.specs.Answer.{Answer, packAnswer}
-use Rattle.words.specs.Buffer.{packed}
+use Rattle.words.specs.Word.{packed}
 use Rattle.c_api.specs.Host.{kept}
 use borrow.Author.Needs.{needs}
 use Rattle.c_api.proofs.pack.lpspi_pack_u8.Statement.{statement}

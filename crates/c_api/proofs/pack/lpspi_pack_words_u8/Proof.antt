@@ -2,7 +2,8 @@
 -- Assumes nothing.
 use mathlib.Core.Path.{ap, _∙_}
 use Rattle.words.specs.declared.order.BitOrder.{BitOrder}
-use Rattle.words.specs.Buffer.{laid, packWords}
+use Rattle.words.specs.Word.{laid}
+use Rattle.words.specs.Buffer.{packWords}
 use borrow.Author.Needs.{needs}
 use Rattle.c_api.proofs.pack.lpspi_pack_words_u8.Statement.{statement}
 use Rattle.c_api.proofs.pack.lpspi_pack_words_u8.Tie as tie

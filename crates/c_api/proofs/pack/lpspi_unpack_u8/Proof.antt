@@ -4,7 +4,7 @@ use Prim.Native.Nat.{ℕ}
 use mathlib.Core.Path.{ap, sym, _∙_}
 use Rattle.words.specs.declared.order.BitOrder.{BitOrder}
 use Rattle.words.specs.Answer.{unpackNumber}
-use Rattle.words.specs.Buffer.{unpacked}
+use Rattle.words.specs.Word.{unpacked}
 use borrow.Author.Needs.{needs}
 use Rattle.c_api.proofs.pack.lpspi_unpack_u8.Statement.{statement}
 use Rattle.c_api.proofs.pack.lpspi_unpack_u8.Tie as tie

@@ -2,7 +2,8 @@
 -- Assumes nothing.
 use mathlib.Core.Path.{ap, _∙_}
 use Rattle.words.specs.declared.order.BitOrder.{BitOrder}
-use Rattle.words.specs.Buffer.{laid, unpackWords}
+use Rattle.words.specs.Word.{laid}
+use Rattle.words.specs.Buffer.{unpackWords}
 use borrow.Author.Needs.{needs}
 use Rattle.c_api.proofs.pack.lpspi_unpack_words_u8.Statement.{statement}
 use Rattle.c_api.proofs.pack.lpspi_unpack_words_u8.Tie as tie

@@ -6,15 +6,15 @@ use mathlib.Core.Path.{_≡_, refl, ap, sym, _∙_}
 use native.Mathlib.Nat.{add-zero}
 use native.Mathlib.Omega.{arith}
 use lib.ListN.{length, getD, length-set}
-use Rattle.words.specs.Word.{pack}
-use Rattle.words.specs.Buffer.{laid, upTo, wordAt, wordCount}
+use Rattle.words.specs.Word.{pack, laid}
+use Rattle.words.specs.Buffer.{tabulate, wordAt, wordCount}
 use Rattle.words.proofs.BufferLaws.{store-step, store-stop, word-whole}
 use borrow.Author.Needs.{needs}
 use Rattle.words.proofs.buffer.pack_full_u8.Statement.{statement}
 use Rattle.words.proofs.buffer.pack_full_u8.Tie as tie
 
 abbrev Inv-loop : tie.InvT-loop
-Inv-loop order xs n words₀ i₀ words i = (i ≤ n) × (length words ≡ length words₀) × (words ≡ laid (upTo i (wordAt order 8 (4 * n) xs)) words₀)
+Inv-loop order xs n words₀ i₀ words i = (i ≤ n) × (length words ≡ length words₀) × (words ≡ laid (tabulate i (wordAt order 8 (4 * n) xs)) words₀)
 
 abbrev μ-loop : tie.MeasureT-loop
 μ-loop order xs n words₀ i₀ words i = n - i
@@ -68,8 +68,9 @@ loop-again c =
     let a = p .before .before .before .args in
     let xs = a .xs .now in
     let at = 4 * l .i in
-    let word = c .full-u8 .ensures ∙ ap (λ (m : ℕ). pack (a .order) 8 (getD xs m 0 ∷ getD xs (at + 1) 0 ∷ getD xs (at + 2) 0 ∷ getD xs (at + 3) 0 ∷ [])) (sym (add-zero at)) ∙ word-whole (a .order) 8 (4 * a .n) (l .i) at xs refl (omega arith) (omega arith) in
-    (omega arith, length-set (l .words) (l .i) (c .full-u8 .result) ∙ l .inv .1, store-step (l .i) (c .full-u8 .result) (wordAt (a .order) 8 (4 * a .n) xs) (a .words .now) (l .words) (omega arith) word (l .inv .2))
+    let f = wordAt (a .order) 8 (4 * a .n) xs in
+    let word : c .full-u8 .result ≡ f (l .i) = c .full-u8 .ensures ∙ ap (λ (m : ℕ). pack (a .order) 8 (getD xs m 0 ∷ getD xs (at + 1) 0 ∷ getD xs (at + 2) 0 ∷ getD xs (at + 3) 0 ∷ [])) (sym (add-zero at)) ∙ word-whole (a .order) 8 (4 * a .n) (l .i) at xs refl (omega arith) (omega arith) in
+    (omega arith, length-set (l .words) (l .i) (c .full-u8 .result) ∙ l .inv .1, store-step (l .i) (c .full-u8 .result) f (a .words .now) (l .words) (omega arith) word (l .inv .2))
 
 same-length : tie.Need-same-length Inv-loop μ-loop
 same-length c = c .before .loop .inv .1

@@ -5,15 +5,15 @@ use mathlib.Core.List.{List}
 use mathlib.Core.Path.{_≡_, refl, ap, _∙_}
 use native.Mathlib.Omega.{arith}
 use lib.ListN.{length, drop, length-set}
-use Rattle.words.specs.Word.{pack}
-use Rattle.words.specs.Buffer.{dummy, filled, laid, upTo, wordAt}
+use Rattle.words.specs.Word.{pack, laid}
+use Rattle.words.specs.Buffer.{dummy, filled, tabulate, wordAt}
 use Rattle.words.proofs.BufferLaws.{store-step, length-laid}
 use borrow.Author.Needs.{needs}
 use Rattle.words.proofs.buffer.pack_rest_u16.Statement.{statement}
 use Rattle.words.proofs.buffer.pack_rest_u16.Tie as tie
 
 abbrev Inv-loop : tie.InvT-loop
-Inv-loop order xs total from n words₀ i₀ words i = (i ≤ n) × (length words ≡ length words₀) × ((ws : List ℕ) → words₀ ≡ laid (upTo from (wordAt order 16 total xs)) ws → words ≡ laid (upTo i (wordAt order 16 total xs)) ws)
+Inv-loop order xs total from n words₀ i₀ words i = (i ≤ n) × (length words ≡ length words₀) × ((ws : List ℕ) → words₀ ≡ laid (tabulate from (wordAt order 16 total xs)) ws → words ≡ laid (tabulate i (wordAt order 16 total xs)) ws)
 
 abbrev μ-loop : tie.MeasureT-loop
 μ-loop order xs total from n words₀ i₀ words i = n - i
@@ -53,10 +53,10 @@ loop-again c =
     let l = c .before .before .before .loop in
     let a = c .before .before .before .before .before .before .args in
     let f = wordAt (a .order) 16 (a .total) (a .xs .now) in
-    let word = c .word-u16 .ensures ∙ ap (λ (n : ℕ). pack (a .order) 16 (filled (dummy 16) n (drop (2 * l .i) (a .xs .now)))) (c .before .min .ensures) in (
+    let word : c .word-u16 .result ≡ f (l .i) = c .word-u16 .ensures ∙ ap (λ (n : ℕ). pack (a .order) 16 (filled (dummy 16) n (drop (2 * l .i) (a .xs .now)))) (c .before .min .ensures) in (
       omega arith,
       length-set (l .words) (l .i) (c .word-u16 .result) ∙ l .inv .1,
-      λ ws e. store-step (l .i) (c .word-u16 .result) f ws (l .words) (omega (arith, ap length e ∙ length-laid (upTo (a .from) f) ws)) word (l .inv .2 ws e),
+      λ ws e. store-step (l .i) (c .word-u16 .result) f ws (l .words) (omega (arith, ap length e ∙ length-laid (tabulate (a .from) f) ws)) word (l .inv .2 ws e),
     )
 
 same-length : tie.Need-same-length Inv-loop μ-loop
@@ -67,7 +67,7 @@ returns c =
     let l = c .before .loop in
     let a = c .before .before .before .before .args in
     let end : l .i ≡ a .n = omega arith in
-    λ ws e. l .inv .2 ws e ∙ ap (λ (m : ℕ). laid (upTo m (wordAt (a .order) 16 (a .total) (a .xs .now))) ws) end
+    λ ws e. l .inv .2 ws e ∙ ap (λ (m : ℕ). laid (tabulate m (wordAt (a .order) 16 (a .total) (a .xs .now))) ws) end
 
 pub pack-rest-u16-spec : {M : Type 1} → statement M
 pack-rest-u16-spec =

@@ -5,7 +5,8 @@ use mathlib.Core.List.{List}
 use mathlib.Core.Path.{_≡_, refl, ap, _∙_}
 use native.Mathlib.Omega.{arith}
 use lib.ListN.{length}
-use Rattle.words.specs.Buffer.{laid, wordAt, wordCount}
+use Rattle.words.specs.Word.{laid}
+use Rattle.words.specs.Buffer.{wordAt, wordCount}
 use Rattle.words.proofs.BufferLaws.{store-stop, words-prefix}
 use borrow.Author.Needs.{needs}
 use Rattle.words.proofs.buffer.pack_words_u16.Statement.{statement}

@@ -4,14 +4,15 @@ use Prim.Native.Nat.{ℕ, _≤_, _<_, _-_}
 use mathlib.Core.Path.{_≡_, refl, _∙_}
 use native.Mathlib.Omega.{arith}
 use lib.ListN.{length, getD, length-set}
-use Rattle.words.specs.Buffer.{dummy, laid, upTo, wordAt, wordCount}
+use Rattle.words.specs.Word.{laid}
+use Rattle.words.specs.Buffer.{dummy, tabulate, wordAt, wordCount}
 use Rattle.words.proofs.BufferLaws.{store-step, store-stop, word-32}
 use borrow.Author.Needs.{needs}
 use Rattle.words.proofs.buffer.pack_words_u32.Statement.{statement}
 use Rattle.words.proofs.buffer.pack_words_u32.Tie as tie
 
 abbrev Inv-loop : tie.InvT-loop
-Inv-loop xs total words₀ n i₀ words i = (i ≤ n) × (length words ≡ length words₀) × (words ≡ laid (upTo i (λ (j : ℕ). getD xs j (dummy 32))) words₀)
+Inv-loop xs total words₀ n i₀ words i = (i ≤ n) × (length words ≡ length words₀) × (words ≡ laid (tabulate i (λ (j : ℕ). getD xs j (dummy 32))) words₀)
 
 abbrev μ-loop : tie.MeasureT-loop
 μ-loop xs total words₀ n i₀ words i = n - i

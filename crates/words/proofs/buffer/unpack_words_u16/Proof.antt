@@ -9,7 +9,8 @@ use borrow.Author.Count.{falls}
 use borrow.Rule.Slice.PartMut.{same-len-mid}
 use lib.Dec.{lit<}
 use lib.ListN.{length, take, getD}
-use Rattle.words.specs.Buffer.{laid, unpackWords}
+use Rattle.words.specs.Word.{laid}
+use Rattle.words.specs.Buffer.{unpackWords}
 use Rattle.words.proofs.BufferLaws.{unpack-step, unpack-stop, words-inside, words-end}
 use borrow.Author.Needs.{needs}
 use Rattle.words.proofs.buffer.unpack_words_u16.Statement.{statement}

@@ -5,14 +5,15 @@ use mathlib.Core.List.{List}
 use mathlib.Core.Path.{_≡_, refl, sym, ap, _∙_}
 use native.Mathlib.Omega.{arith}
 use lib.ListN.{length, getD, length-set}
-use Rattle.words.specs.Buffer.{laid, upTo}
+use Rattle.words.specs.Word.{laid}
+use Rattle.words.specs.Buffer.{tabulate}
 use Rattle.words.proofs.BufferLaws.{store-step, store-stop, unpack-32}
 use borrow.Author.Needs.{needs}
 use Rattle.words.proofs.buffer.unpack_words_u32.Statement.{statement}
 use Rattle.words.proofs.buffer.unpack_words_u32.Tie as tie
 
 abbrev Inv-loop : tie.InvT-loop
-Inv-loop words total out₀ n i₀ out i = (i ≤ n) × (length out ≡ length out₀) × (out ≡ laid (upTo i (λ (j : ℕ). getD words j 0)) out₀)
+Inv-loop words total out₀ n i₀ out i = (i ≤ n) × (length out ≡ length out₀) × (out ≡ laid (tabulate i (λ (j : ℕ). getD words j 0)) out₀)
 
 abbrev μ-loop : tie.MeasureT-loop
 μ-loop words total out₀ n i₀ out i = n - i

@@ -6,7 +6,8 @@ use denote.Triple.Spec.{tripleOf}
 use denote.Triple.Table.{entered, cited}
 use Rattle.manual.specs.declared.Tcr.the-variants.{BYSW}
 use Rattle.words.specs.Command.{setFlag}
-use Rattle.words.proofs.Setter.{With, setter-meets, flag}
+use Rattle.words.proofs.Setter.{With, setter-meets}
+use Rattle.words.proofs.SetterValues.{flag}
 use Rattle.words.proofs.transaction.Transaction.with_byte_swap.Symbol as with-def
 use Rattle.words.proofs.transaction.Transaction.with_byte_swap.Met as with-thm
 use Rattle.words.proofs.transaction.Transaction.set_byte_swap.Key.{name as #set}

@@ -6,7 +6,8 @@ use denote.Triple.Spec.{tripleOf}
 use denote.Triple.Table.{entered, cited}
 use Rattle.manual.specs.declared.Tcr.the-variants.{CONTC}
 use Rattle.words.specs.Command.{setFlag}
-use Rattle.words.proofs.Setter.{With, setter-meets, flag}
+use Rattle.words.proofs.Setter.{With, setter-meets}
+use Rattle.words.proofs.SetterValues.{flag}
 use Rattle.words.proofs.transaction.Transaction.with_continuing.Symbol as with-def
 use Rattle.words.proofs.transaction.Transaction.with_continuing.Met as with-thm
 use Rattle.words.proofs.transaction.Transaction.set_continuing.Key.{name as #set}

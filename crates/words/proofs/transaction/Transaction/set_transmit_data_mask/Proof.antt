@@ -6,7 +6,8 @@ use denote.Triple.Spec.{tripleOf}
 use denote.Triple.Table.{entered, cited}
 use Rattle.manual.specs.declared.Tcr.the-variants.{TXMSK}
 use Rattle.words.specs.Command.{setFlag}
-use Rattle.words.proofs.Setter.{With, setter-meets, flag}
+use Rattle.words.proofs.Setter.{With, setter-meets}
+use Rattle.words.proofs.SetterValues.{flag}
 use Rattle.words.proofs.transaction.Transaction.with_transmit_data_mask.Symbol as with-def
 use Rattle.words.proofs.transaction.Transaction.with_transmit_data_mask.Met as with-thm
 use Rattle.words.proofs.transaction.Transaction.set_transmit_data_mask.Key.{name as #set}
