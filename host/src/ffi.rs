@@ -6,7 +6,7 @@
 extern "C" {
     #[allow(clippy::too_many_arguments)]
     pub fn lpspi_command(
-        frame_size: u16,
+        frame_size: u32,
         byte_swap: bool,
         lsb: bool,
         receive_mask: bool,

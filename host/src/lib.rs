@@ -37,7 +37,7 @@ impl BitOrder {
 #[derive(Debug, Clone, Copy, PartialEq, Eq, Default)]
 pub struct Command {
     /// Frame size in bits: 8 to 4096, and not 1 modulo 32.
-    pub frame_size: u16,
+    pub frame_size: u32,
     /// Swap the bytes of each word (BYSW).
     pub byte_swap: bool,
     /// Bit order (LSBF).

@@ -12,7 +12,7 @@ pub const DUMMY: u8 = 0xFF;
 /// The TCR word: its fields joined from bit 31 down to bit 0.
 pub fn command(command: &Command) -> Result<u32, Error> {
     // With FRAMESZ = f - 1, "f mod 32 is not 1" is "FRAMESZ mod 32 is not 0".
-    let framesz = i32::from(command.frame_size) - 1;
+    let framesz = i64::from(command.frame_size) - 1;
     if !(7..=0xFFF).contains(&framesz) || framesz % 32 == 0 {
         return Err(Error::FrameSize);
     }

@@ -48,8 +48,8 @@ fn clocks() {
 #[test]
 fn commands() {
     let mut random = Random::new("baseline commands");
-    for frame_size in 0..=5000 {
-        let settings = random.command(frame_size);
+    for frame_size in 0..=5000_u16 {
+        let settings = random.command(frame_size.into());
         let mode = Mode {
             polarity: [Polarity::IdleLow, Polarity::IdleHigh][settings.mode as usize / 2 % 2],
             phase: [

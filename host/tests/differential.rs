@@ -29,7 +29,14 @@ fn check_command(random: &mut Random, command: &Command) -> bool {
 fn commands_of_every_frame_size() {
     let mut random = Random::new("commands_of_every_frame_size");
     let mut accepted = 0;
-    for frame_size in 0..=u16::MAX {
+    let past_u16 = [
+        1 << 16,
+        (1 << 16) + 8,
+        (1 << 16) + 40,
+        u32::MAX - 1,
+        u32::MAX,
+    ];
+    for frame_size in (0..=u32::from(u16::MAX)).chain(past_u16) {
         let plain = Command {
             frame_size,
             ..Command::default()

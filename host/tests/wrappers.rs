@@ -9,7 +9,7 @@ use lpspi_host::{
 /// A value that no call below gives.
 const FOUND: u32 = 0xDEAD_BEEF;
 
-fn sized(frame_size: u16) -> Command {
+fn sized(frame_size: u32) -> Command {
     Command {
         frame_size,
         ..Command::default()
@@ -154,7 +154,7 @@ fn command_examples() {
 #[test]
 fn frame_size_limits() {
     for accepted in [8, 9, 31, 32, 34, 64, 66, 4064, 4066, 4095, 4096] {
-        assert_eq!(command(&sized(accepted)), Ok(u32::from(accepted) - 1));
+        assert_eq!(command(&sized(accepted)), Ok(accepted - 1));
     }
     // 4104 is 8 in its low 12 bits.
     for refused in [0, 1, 7, 33, 65, 4033, 4065, 4097, 4098, 4104, 65535] {

@@ -16,33 +16,33 @@ use Rattle.words.specs.Answer.{Answer}
 use Rattle.words.specs.Clock.{clocked, clockWord}
 use Rattle.words.specs.Command.{Settings}
 
-abbrev pub orderOf : Bool → BitOrder
-orderOf lsb = cond lsb Lsb Msb
+abbrev pub orderFrom : Bool → BitOrder
+orderFrom lsb = cond lsb Lsb Msb
 
 -- the SPI mode number: bit 1 is the polarity, bit 0 the phase; higher bits do not count
-abbrev pub polarityOf : ℕ → Polarity
-polarityOf mode = cond (eqb (mode / 2 % 2) 0) IdleLow IdleHigh
+abbrev pub polarityFrom : ℕ → Polarity
+polarityFrom mode = cond (eqb (mode / 2 % 2) 0) IdleLow IdleHigh
 
-abbrev pub phaseOf : ℕ → Phase
-phaseOf mode = cond (eqb (mode % 2) 0) CaptureOnFirstTransition CaptureOnSecondTransition
+abbrev pub phaseFrom : ℕ → Phase
+phaseFrom mode = cond (eqb (mode % 2) 0) CaptureOnFirstTransition CaptureOnSecondTransition
 
-abbrev pub modeOf : ℕ → Mode
-modeOf mode = record { polarity = polarityOf mode; phase = phaseOf mode }
+abbrev pub modeFrom : ℕ → Mode
+modeFrom mode = record { polarity = polarityFrom mode; phase = phaseFrom mode }
 
 -- the chip select's number; bits above the lowest two do not count
-abbrev pub pcsOf : ℕ → Pcs
-pcsOf pcs = cond (eqb (pcs % 4) 0) Pcs0 (cond (eqb (pcs % 4) 1) Pcs1 (cond (eqb (pcs % 4) 2) Pcs2 Pcs3))
+abbrev pub pcsFrom : ℕ → Pcs
+pcsFrom pcs = cond (eqb (pcs % 4) 0) Pcs0 (cond (eqb (pcs % 4) 1) Pcs1 (cond (eqb (pcs % 4) 2) Pcs2 Pcs3))
 
-abbrev pub settings : Bool → Bool → Bool → Bool → Bool → Bool → ℕ → ℕ → Settings
-settings swap lsb receive transmit continuous continuing mode pcs = record {
+abbrev pub settingsFrom : Bool → Bool → Bool → Bool → Bool → Bool → ℕ → ℕ → Settings
+settingsFrom swap lsb receive transmit continuous continuing mode pcs = record {
   byteSwap = swap;
-  order = orderOf lsb;
+  order = orderFrom lsb;
   receiveMask = receive;
   transmitMask = transmit;
   continuous = continuous;
   continuing = continuing;
-  mode = modeOf mode;
-  pcs = pcsOf pcs;
+  mode = modeFrom mode;
+  pcs = pcsFrom pcs;
 }
 
 -- a number that was returned, and what stands where the word goes

@@ -1,7 +1,7 @@
 // The word of the register TCR.
 ghost use mathlib.Core.Path.{_≡_};
 ghost use Rattle.words.specs.Command.{commanded, settingsWord};
-ghost use Rattle.c_api.specs.Host.{orderOf, polarityOf, phaseOf, pcsOf, settings, answered, kept};
+ghost use Rattle.c_api.specs.Host.{orderFrom, polarityFrom, phaseFrom, pcsFrom, settingsFrom, answered, kept};
 use words::mode::Mode;
 use words::mode::Pcs;
 use words::mode::Phase;
@@ -11,13 +11,13 @@ use words::transaction::Transaction;
 use words::transaction::TransactionResult;
 
 pub(crate) fn order_of(lsb: bool) -> BitOrder
-    ensures { λ r. ⌜ r ≡ orderOf lsb ⌝ }
+    ensures { λ r. ⌜ r ≡ orderFrom lsb ⌝ }
 {
     if lsb { BitOrder::Lsb } else { BitOrder::Msb }
 }
 
 fn polarity_of(mode: u32) -> Polarity
-    ensures { λ r. ⌜ r ≡ polarityOf mode ⌝ }
+    ensures { λ r. ⌜ r ≡ polarityFrom mode ⌝ }
 {
     if mode / 2 % 2 == 0 {
         Polarity::IdleLow
@@ -27,7 +27,7 @@ fn polarity_of(mode: u32) -> Polarity
 }
 
 fn phase_of(mode: u32) -> Phase
-    ensures { λ r. ⌜ r ≡ phaseOf mode ⌝ }
+    ensures { λ r. ⌜ r ≡ phaseFrom mode ⌝ }
 {
     if mode % 2 == 0 {
         Phase::CaptureOnFirstTransition
@@ -37,7 +37,7 @@ fn phase_of(mode: u32) -> Phase
 }
 
 fn pcs_of(pcs: u32) -> Pcs
-    ensures { λ r. ⌜ r ≡ pcsOf pcs ⌝ }
+    ensures { λ r. ⌜ r ≡ pcsFrom pcs ⌝ }
 {
     let select = pcs % 4;
     if select == 0 {
@@ -54,7 +54,7 @@ fn pcs_of(pcs: u32) -> Pcs
 
 #[no_mangle]
 pub extern "C" fn lpspi_command(
-    frame_size: u16,
+    frame_size: u32,
     byte_swap: bool,
     lsb: bool,
     receive_mask: bool,
@@ -65,9 +65,12 @@ pub extern "C" fn lpspi_command(
     pcs: u32,
     word: &mut u32,
 ) -> u32
-    ensures { λ r. ⌜ answered r (now (word .exit)) ≡ kept (commanded (settingsWord (settings «byte_swap» lsb «receive_mask» «transmit_mask» continuous continuing mode pcs)) «frame_size») (now (word .entry)) ⌝ }
+    ensures { λ r. ⌜ answered r (now (word .exit)) ≡ kept (commanded (settingsWord (settingsFrom «byte_swap» lsb «receive_mask» «transmit_mask» continuous continuing mode pcs)) «frame_size») (now (word .entry)) ⌝ }
 {
-    let TransactionResult::Ok(command) = Transaction::new(frame_size) else {
+    if (Transaction::MAX_FRAME_SIZE as u32) < frame_size {
+        return 1;
+    }
+    let TransactionResult::Ok(command) = Transaction::new(frame_size as u16) else {
         return 1;
     };
     let polarity = polarity_of(mode);

@@ -21,7 +21,7 @@ pub record Case : Type 0 where
 abbrev row : List ℕ → List ℕ → Case
 row gives says = record { gives = gives; says = says }
 
--- a refused frame has its number, an accepted one 0
+-- a refused frame has its number; an accepted one 0 and its word
 abbrev number : Answer → List ℕ
 number a = a .number ∷ []
 
@@ -44,8 +44,8 @@ cases =
     ∷ row (number (framed 33)) (1 ∷ [])
     ∷ row (number (framed 4065)) (1 ∷ [])
     ∷ row (number (framed 4097)) (1 ∷ [])
-    ∷ row (number (framed 8)) (0 ∷ [])
-    ∷ row (number (framed 4096)) (0 ∷ [])
+    ∷ row (command (framed 8)) (0 ∷ 0x00000007 ∷ [])
+    ∷ row (command (framed 4096)) (0 ∷ 0x00000FFF ∷ [])
     ∷ row (command (commanded (busWord Lsb mode3 Pcs2) 40)) (0 ∷ 0xC2800027 ∷ [])
     ∷ row (clock (clocked 60_000_000 4_000_000)) (0 ∷ 0x0707070E ∷ [])
     ∷ row (clock (clocked 60_000_000 100_000)) (0 ∷ 0x7F7F7FFE ∷ [])

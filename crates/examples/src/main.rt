@@ -1,10 +1,17 @@
 // Computes the examples of document 01 and prints them: words, commands, clocks and what is refused.
 use libc::STDOUT_FILENO;
+use manual::Field;
+use manual::Register;
+use manual::Tcr;
 use words::buffer::pack_words_u8;
 use words::buffer::pack_words_u16;
+use words::buffer::pack_words_u32;
 use words::buffer::unpack_words_u8;
+use words::buffer::unpack_words_u16;
+use words::buffer::unpack_words_u32;
 use words::clock::ClockConfigs;
 use words::clock::ClockResult;
+use words::longer::longer_u8;
 use words::mode::MODE_0;
 use words::mode::MODE_1;
 use words::mode::MODE_2;
@@ -14,8 +21,13 @@ use words::mode::Pcs;
 use words::order::BitOrder;
 use words::pack::PackResult;
 use words::pack::pack_u8;
+use words::pack::pack_u16;
+use words::pack::pack_u32;
 use words::transaction::Transaction;
 use words::transaction::TransactionResult;
+use words::unpack::unpack_u16;
+use words::unpack::unpack_u32;
+use words::width::Width;
 
 fn text(bytes: &[u8]) {
     io::write_all(STDOUT_FILENO, bytes);
@@ -95,11 +107,109 @@ fn show_unequal_lengths() {
     byte(read[0]);
     let five = [0x11u8, 0x22, 0x33, 0x44, 0x55];
     text(b"\npack 5 bytes in a word:");
-    let PackResult::Word(w) = pack_u8(BitOrder::Msb, &five) else {
+    packed(pack_u8(BitOrder::Msb, &five));
+}
+
+// The other widths, one word and whole buffers.
+fn show_halves() {
+    let halves = [0x1122u16, 0x3344];
+    text(b"pack 16 M 1122 3344 in a word:");
+    packed(pack_u16(BitOrder::Msb, &halves));
+    let mut read = [0u16; 2];
+    text(b"unpack 16 M 2 of 11223344:");
+    unpack_u16(0x1122_3344, BitOrder::Msb, 2, &mut read);
+    half(read[0]);
+    half(read[1]);
+    let received = [0x3344_1122u32];
+    text(b"\nread 16 L 2 of 2 in 33441122:");
+    unpack_words_u16(BitOrder::Lsb, &received, 2, &mut read);
+    half(read[0]);
+    half(read[1]);
+    text(b"\n");
+}
+
+fn show_wide_words() {
+    let one = [0x1122_3344u32];
+    text(b"pack 32 L 11223344 in a word:");
+    packed(pack_u32(BitOrder::Lsb, &one));
+    let mut words = [0u32; 2];
+    text(b"send 32 M 11223344 of 2:");
+    pack_words_u32(BitOrder::Msb, &one, 2, &mut words);
+    two_words(words);
+    let received = [0xAABB_CCDDu32, 0x0000_0001];
+    text(b"read 32 L 2 of 2 in AABBCCDD 00000001:");
+    unpack_words_u32(BitOrder::Lsb, &received, 2, &mut words);
+    two_words(words);
+    text(b"unpack 32 M 0 of 00000005:");
+    unpack_u32(5, BitOrder::Msb, 0, &mut words);
+    two_words(words);
+}
+
+fn packed(r: PackResult) {
+    let PackResult::Word(w) = r else {
         text(b" refused, 8\n");
         return;
     };
     word(w);
+    text(b"\n");
+}
+
+fn half(h: u16) {
+    word(h as u32);
+}
+
+fn show_widths() {
+    text(b"widths 8, 16, 32: elements a word");
+    number(Width::U8.per_word() as u64);
+    number(Width::U16.per_word() as u64);
+    number(Width::U32.per_word() as u64);
+    text(b"; dummies");
+    word(Width::U8.dummy());
+    word(Width::U16.dummy());
+    word(Width::U32.dummy());
+    text(b"; words of 5");
+    number(Width::U8.word_count(5) as u64);
+    number(Width::U16.word_count(5) as u64);
+    number(Width::U32.word_count(5) as u64);
+    text(b"\n");
+}
+
+// The longest frames of each width, and one element more.
+fn show_longest_frames() {
+    let bytes = [0u8; 513];
+    let halves = [0u16; 257];
+    let words = [0u32; 129];
+    text(b"frame of 512 bytes");
+    command(Transaction::new_u8s(&bytes[..512]));
+    text(b"frame of 513 bytes");
+    command(Transaction::new_u8s(&bytes));
+    text(b"frame of 256 halves");
+    command(Transaction::new_u16s(&halves[..256]));
+    text(b"frame of 257 halves");
+    command(Transaction::new_u16s(&halves));
+    text(b"frame of 128 words");
+    command(Transaction::new_u32s(&words[..128]));
+    text(b"frame of 129 words");
+    command(Transaction::new_u32s(&words));
+}
+
+fn show_longer() {
+    let two = [0u8; 2];
+    let one = [0u8; 1];
+    text(b"longer of 2 read, 1 written:");
+    number(longer_u8(&two, &one).len() as u64);
+    text(b"\nlonger of 1 read, 2 written:");
+    number(longer_u8(&one, &two).len() as u64);
+    text(b"\n");
+}
+
+fn show_fields() {
+    text(b"TCR at");
+    word(Register::TCR.offset());
+    text(b", PCS of C2800027:");
+    number(Field::Tcr(Tcr::PCS).read(0xC280_0027) as u64);
+    text(b", set to 7:");
+    word(Field::Tcr(Tcr::PCS).set(7, 0xC280_0027));
     text(b"\n");
 }
 
@@ -178,6 +288,12 @@ fn main() {
     show_words();
     show_short_words();
     show_unequal_lengths();
+    show_halves();
+    show_wide_words();
+    show_widths();
+    show_longest_frames();
+    show_longer();
+    show_fields();
     show_commands();
     show_modes();
     clock(60_000_000, 4_000_000);

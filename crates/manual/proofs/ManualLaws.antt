@@ -1,10 +1,10 @@
--- The manual's table is sound: every field lies inside its 32-bit register, and no two fields of a register share a bit. So a field that
--- was set is read back, and every other one is as it was.
+-- The manual's table is sound: every field lies inside its 32-bit register, and two fields of a register share no bit. So a field that was
+-- set is read back, and every other one of its register is as it was.
 -- Assumes nothing.
 use Prim.Native.Nat.{ℕ, _+_, _%_, _^_, _<_, _≤_}
 use mathlib.Core.Bool.{Bool, true, false, cond, _&&_, _||_}
 use mathlib.Core.List.{List, [], _∷_}
-use mathlib.Core.Path.{_≡_, refl, _∙_}
+use mathlib.Core.Path.{_≡_, refl, sym, _∙_, subst}
 use lib.Dec.{T, leb, ltb, eqb, leb→le, ltb→lt, eqb→eq}
 use Rattle.manual.specs.declared.Param.the-variants.{TXFIFO, RXFIFO}
 use Rattle.manual.specs.declared.Cr.the-variants.{MEN, RST, RTF, RRF}
@@ -15,103 +15,146 @@ use Rattle.manual.specs.declared.Fcr.the-variants.{TXWATER, RXWATER}
 use Rattle.manual.specs.declared.Fsr.the-variants.{TXCOUNT, RXCOUNT}
 use Rattle.manual.specs.declared.Tcr.the-variants.{FRAMESZ, TXMSK, RXMSK, CONTC, CONT, BYSW, LSBF, PCS, CPHA, CPOL}
 use Rattle.manual.specs.declared.Rsr.the-variants.{SOF, RXEMPTY}
+use Rattle.manual.specs.declared.Register.{Register}
+use Rattle.manual.specs.declared.Register.the-variants.{PARAM, CR, SR, IER, DER, CFGR0, CFGR1, DMR0, DMR1, CCR, FCR, FSR, TCR, TDR, RSR, RDR}
 use Rattle.manual.specs.declared.Field.{Field}
 use Rattle.manual.specs.declared.Field.the-variants.{Param, Cr, Sr, Cfgr1, Ccr, Fcr, Fsr, Tcr, Rsr}
-use Rattle.manual.specs.Manual.{bitsOf, readField, setField}
+use Rattle.manual.specs.Manual.{bitsOf, registerOf, readField, setField}
 use Rattle.manual.proofs.BitsLaws.{get-set, get-set-below, get-set-above}
 
-and-both : (a b : Bool) → T (a && b) → T a × T b
-and-both true true h = (tt, tt)
+both : (a b : Bool) → T (a && b) → T a × T b
+both true true h = (tt, tt)
 
-abbrev inWord : Field → Bool
-inWord f = ltb 0 (bitsOf f .width) && (ltb (bitsOf f .width) 32 && leb (bitsOf f .position + bitsOf f .width) 32)
-
-in-word : (f : Field) → T (inWord f)
-in-word (Param TXFIFO) = tt
-in-word (Param RXFIFO) = tt
-in-word (Cr MEN) = tt
-in-word (Cr RST) = tt
-in-word (Cr RTF) = tt
-in-word (Cr RRF) = tt
-in-word (Sr TDF) = tt
-in-word (Sr RDF) = tt
-in-word (Sr WCF) = tt
-in-word (Sr FCF) = tt
-in-word (Sr TCF) = tt
-in-word (Sr TEF) = tt
-in-word (Sr REF) = tt
-in-word (Sr DMF) = tt
-in-word (Sr MBF) = tt
-in-word (Cfgr1 MASTER) = tt
-in-word (Cfgr1 SAMPLE) = tt
-in-word (Cfgr1 PCSPOL) = tt
-in-word (Ccr SCKDIV) = tt
-in-word (Ccr DBT) = tt
-in-word (Ccr PCSSCK) = tt
-in-word (Ccr SCKPCS) = tt
-in-word (Fcr TXWATER) = tt
-in-word (Fcr RXWATER) = tt
-in-word (Fsr TXCOUNT) = tt
-in-word (Fsr RXCOUNT) = tt
-in-word (Tcr FRAMESZ) = tt
-in-word (Tcr TXMSK) = tt
-in-word (Tcr RXMSK) = tt
-in-word (Tcr CONTC) = tt
-in-word (Tcr CONT) = tt
-in-word (Tcr BYSW) = tt
-in-word (Tcr LSBF) = tt
-in-word (Tcr PCS) = tt
-in-word (Tcr CPHA) = tt
-in-word (Tcr CPOL) = tt
-in-word (Rsr SOF) = tt
-in-word (Rsr RXEMPTY) = tt
-
-pub fits : (f : Field) → (0 < bitsOf f .width) × (bitsOf f .width < 32) × (bitsOf f .position + bitsOf f .width ≤ 32)
-fits f =
-    let h = and-both (ltb 0 (bitsOf f .width)) (ltb (bitsOf f .width) 32 && leb (bitsOf f .position + bitsOf f .width) 32) (in-word f) in
-    let l = and-both (ltb (bitsOf f .width) 32) (leb (bitsOf f .position + bitsOf f .width) 32) (h .1) in
-    (ltb→lt 0 (bitsOf f .width) (h .0), ltb→lt (bitsOf f .width) 32 (l .0), leb→le (bitsOf f .position + bitsOf f .width) 32 (l .1))
+either : {P : Type 0} (a b : Bool) → T (a || b) → (T a → P) → (T b → P) → P
+either true b h p q = p tt
+either false true h p q = q tt
 
 -- one of two fields ends where the other begins, or before
 abbrev pub apart : Field → Field → Bool
 apart f g = leb (bitsOf g .position + bitsOf g .width) (bitsOf f .position) || leb (bitsOf f .position + bitsOf f .width) (bitsOf g .position)
 
-abbrev apartFrom : Field → List Field → Bool
-apartFrom f [] = true
-apartFrom f (g ∷ gs) = apart f g && apartFrom f gs
+abbrev pub sameBits : Field → Field → Bool
+sameBits f g = eqb (bitsOf f .position) (bitsOf g .position) && eqb (bitsOf f .width) (bitsOf g .width)
 
-abbrev pub allApart : List Field → Bool
-allApart [] = true
-allApart (f ∷ fs) = apartFrom f fs && allApart fs
+-- the fields of a register
+abbrev fieldsOf : Register → List Field
+fieldsOf PARAM = Param TXFIFO ∷ Param RXFIFO ∷ []
+fieldsOf CR = Cr MEN ∷ Cr RST ∷ Cr RTF ∷ Cr RRF ∷ []
+fieldsOf SR = Sr TDF ∷ Sr RDF ∷ Sr WCF ∷ Sr FCF ∷ Sr TCF ∷ Sr TEF ∷ Sr REF ∷ Sr DMF ∷ Sr MBF ∷ []
+fieldsOf IER = []
+fieldsOf DER = []
+fieldsOf CFGR0 = []
+fieldsOf CFGR1 = Cfgr1 MASTER ∷ Cfgr1 SAMPLE ∷ Cfgr1 PCSPOL ∷ []
+fieldsOf DMR0 = []
+fieldsOf DMR1 = []
+fieldsOf CCR = Ccr SCKDIV ∷ Ccr DBT ∷ Ccr PCSSCK ∷ Ccr SCKPCS ∷ []
+fieldsOf FCR = Fcr TXWATER ∷ Fcr RXWATER ∷ []
+fieldsOf FSR = Fsr TXCOUNT ∷ Fsr RXCOUNT ∷ []
+fieldsOf TCR = Tcr FRAMESZ ∷ Tcr TXMSK ∷ Tcr RXMSK ∷ Tcr CONTC ∷ Tcr CONT ∷ Tcr BYSW ∷ Tcr LSBF ∷ Tcr PCS ∷ Tcr CPHA ∷ Tcr CPOL ∷ []
+fieldsOf TDR = []
+fieldsOf RSR = Rsr SOF ∷ Rsr RXEMPTY ∷ []
+fieldsOf RDR = []
 
--- NO OVERLAP, register by register
-pub fields-apart : T (
-    allApart (Param TXFIFO ∷ Param RXFIFO ∷ [])
-    && allApart (Cr MEN ∷ Cr RST ∷ Cr RTF ∷ Cr RRF ∷ [])
-    && allApart (Sr TDF ∷ Sr RDF ∷ Sr WCF ∷ Sr FCF ∷ Sr TCF ∷ Sr TEF ∷ Sr REF ∷ Sr DMF ∷ Sr MBF ∷ [])
-    && allApart (Cfgr1 MASTER ∷ Cfgr1 SAMPLE ∷ Cfgr1 PCSPOL ∷ [])
-    && allApart (Ccr SCKDIV ∷ Ccr DBT ∷ Ccr PCSSCK ∷ Ccr SCKPCS ∷ [])
-    && allApart (Fcr TXWATER ∷ Fcr RXWATER ∷ [])
-    && allApart (Fsr TXCOUNT ∷ Fsr RXCOUNT ∷ [])
-    && allApart (Tcr FRAMESZ ∷ Tcr TXMSK ∷ Tcr RXMSK ∷ Tcr CONTC ∷ Tcr CONT ∷ Tcr BYSW ∷ Tcr LSBF ∷ Tcr PCS ∷ Tcr CPHA ∷ Tcr CPOL ∷ [])
-    && allApart (Rsr SOF ∷ Rsr RXEMPTY ∷ [])
-    )
-fields-apart = tt
+abbrev every : (Field → Bool) → List Field → Bool
+every p [] = true
+every p (f ∷ fs) = p f && every p fs
+
+abbrev some : (Field → Bool) → List Field → Bool
+some p [] = false
+some p (f ∷ fs) = p f || some p fs
+
+abbrev inWord : Field → Bool
+inWord f = ltb 0 (bitsOf f .width) && (ltb (bitsOf f .width) 32 && leb (bitsOf f .position + bitsOf f .width) 32)
+
+abbrev apartFromOthers : Field → Bool
+apartFromOthers f = every (λ g. apart f g || sameBits f g) (fieldsOf (registerOf f))
+
+abbrev listed : Field → Bool
+listed f = some (λ g. sameBits g f) (fieldsOf (registerOf f))
+
+-- every row of the table, computed
+table-sound : (f : Field) → T (inWord f && (apartFromOthers f && listed f))
+table-sound (Param TXFIFO) = tt
+table-sound (Param RXFIFO) = tt
+table-sound (Cr MEN) = tt
+table-sound (Cr RST) = tt
+table-sound (Cr RTF) = tt
+table-sound (Cr RRF) = tt
+table-sound (Sr TDF) = tt
+table-sound (Sr RDF) = tt
+table-sound (Sr WCF) = tt
+table-sound (Sr FCF) = tt
+table-sound (Sr TCF) = tt
+table-sound (Sr TEF) = tt
+table-sound (Sr REF) = tt
+table-sound (Sr DMF) = tt
+table-sound (Sr MBF) = tt
+table-sound (Cfgr1 MASTER) = tt
+table-sound (Cfgr1 SAMPLE) = tt
+table-sound (Cfgr1 PCSPOL) = tt
+table-sound (Ccr SCKDIV) = tt
+table-sound (Ccr DBT) = tt
+table-sound (Ccr PCSSCK) = tt
+table-sound (Ccr SCKPCS) = tt
+table-sound (Fcr TXWATER) = tt
+table-sound (Fcr RXWATER) = tt
+table-sound (Fsr TXCOUNT) = tt
+table-sound (Fsr RXCOUNT) = tt
+table-sound (Tcr FRAMESZ) = tt
+table-sound (Tcr TXMSK) = tt
+table-sound (Tcr RXMSK) = tt
+table-sound (Tcr CONTC) = tt
+table-sound (Tcr CONT) = tt
+table-sound (Tcr BYSW) = tt
+table-sound (Tcr LSBF) = tt
+table-sound (Tcr PCS) = tt
+table-sound (Tcr CPHA) = tt
+table-sound (Tcr CPOL) = tt
+table-sound (Rsr SOF) = tt
+table-sound (Rsr RXEMPTY) = tt
+
+-- INSIDE ITS REGISTER
+pub fits : (f : Field) → (0 < bitsOf f .width) × (bitsOf f .width < 32) × (bitsOf f .position + bitsOf f .width ≤ 32)
+fits f =
+    let h = both (inWord f) (apartFromOthers f && listed f) (table-sound f) in
+    let w = both (ltb 0 (bitsOf f .width)) (ltb (bitsOf f .width) 32 && leb (bitsOf f .position + bitsOf f .width) 32) (h .0) in
+    let l = both (ltb (bitsOf f .width) 32) (leb (bitsOf f .position + bitsOf f .width) 32) (w .1) in
+    (ltb→lt 0 (bitsOf f .width) (w .0), ltb→lt (bitsOf f .width) 32 (l .0), leb→le (bitsOf f .position + bitsOf f .width) 32 (l .1))
+
+every-some : (p q : Field → Bool) (fs : List Field) → T (every p fs) → T (some q fs) → {R : Type 0} → ((f : Field) → T (p f) → T (q f) → R) → R
+every-some p q [] h k r = absurd k
+every-some p q (f ∷ fs) h k r =
+    let b = both (p f) (every p fs) h in
+    either (q f) (some q fs) k (r f (b .0)) (λ t. every-some p q fs (b .1) t r)
+
+-- NO OVERLAP: two fields of a register are the same bits or apart
+pub apart-or-same : (f g : Field) → registerOf f ≡ registerOf g → T (apart f g || sameBits f g)
+apart-or-same f g e =
+    let hf = both (apartFromOthers f) (listed f) (both (inWord f) (apartFromOthers f && listed f) (table-sound f) .1) in
+    let hg = both (apartFromOthers g) (listed g) (both (inWord g) (apartFromOthers g && listed g) (table-sound g) .1) in
+    every-some (λ x. apart f x || sameBits f x) (λ x. sameBits x g) (fieldsOf (registerOf f)) (hf .0) (subst (λ (r : Register). T (some (λ x. sameBits x g) (fieldsOf r))) (sym e) (hg .1)) moved
+  where
+    moved : (x : Field) → T (apart f x || sameBits f x) → T (sameBits x g) → T (apart f g || sameBits f g)
+    moved x h s =
+        let b = both (eqb (bitsOf x .position) (bitsOf g .position)) (eqb (bitsOf x .width) (bitsOf g .width)) s in
+        let p = eqb→eq (bitsOf x .position) (bitsOf g .position) (b .0) in
+        let n = eqb→eq (bitsOf x .width) (bitsOf g .width) (b .1) in
+        rw (← p, ← n) h
 
 -- READ BACK: the value, masked to the field
 pub read-set : (f : Field) (v w : ℕ) → readField f (setField f v w) ≡ v % 2 ^ (bitsOf f .width)
 read-set f v w = get-set (bitsOf f .position) (bitsOf f .width) v w
 
--- OTHERS KEPT
-pub read-set-other : (f g : Field) (v w : ℕ) → T (apart f g) → readField g (setField f v w) ≡ readField g w
-read-set-other f g v w h =
+read-apart : (f g : Field) (v w : ℕ) → T (apart f g) → readField g (setField f v w) ≡ readField g w
+read-apart f g v w h =
     either (leb (bitsOf g .position + bitsOf g .width) (bitsOf f .position)) (leb (bitsOf f .position + bitsOf f .width) (bitsOf g .position)) h
     (λ l. get-set-below (bitsOf f .position) (bitsOf f .width) v w (bitsOf g .position) (bitsOf g .width) (leb→le _ _ l))
     (λ l. get-set-above (bitsOf f .position) (bitsOf f .width) v w (bitsOf g .position) (bitsOf g .width) (leb→le _ _ l))
-  where
-    either : {P : Type 0} (a b : Bool) → T (a || b) → (T a → P) → (T b → P) → P
-    either true b h p q = p tt
-    either false true h p q = q tt
+
+-- OTHERS KEPT: every other field of the register
+pub read-set-other : (f g : Field) (v w : ℕ) → registerOf f ≡ registerOf g → (T (sameBits f g) → ⊥) → readField g (setField f v w) ≡ readField g w
+read-set-other f g v w e n =
+    either (apart f g) (sameBits f g) (apart-or-same f g e) (λ t. read-apart f g v w t) (λ t. absurd (n t))
 
 -- SEVERAL FIELDS SET, the last one first in the list
 abbrev pub Setting : Type 0
@@ -121,13 +164,10 @@ abbrev pub setAll : List Setting → ℕ → ℕ
 setAll [] w = w
 setAll (s ∷ ss) w = setField (s .0) (s .1) (setAll ss w)
 
-abbrev pub same : Field → Field → Bool
-same f g = eqb (bitsOf f .position) (bitsOf g .position) && eqb (bitsOf f .width) (bitsOf g .width)
-
 -- each setting is of the field g or of one apart from it
 abbrev pub clear : Field → List Setting → Bool
 clear g [] = true
-clear g (s ∷ ss) = (apart (s .0) g || same (s .0) g) && clear g ss
+clear g (s ∷ ss) = (apart (s .0) g || sameBits (s .0) g) && clear g ss
 
 -- the value that the last of them gave to g, masked to it, or g's value before
 abbrev pub found : Field → List Setting → ℕ → ℕ
@@ -138,15 +178,15 @@ found g (s ∷ ss) w = cond (apart (s .0) g) (found g ss w) (s .1 % 2 ^ (bitsOf 
 pub read-all : (g : Field) (ss : List Setting) (w : ℕ) → T (clear g ss) → readField g (setAll ss w) ≡ found g ss w
 read-all g [] w h = refl
 read-all g (s ∷ ss) w h =
-    let b = and-both (apart (s .0) g || same (s .0) g) (clear g ss) h in
+    let b = both (apart (s .0) g || sameBits (s .0) g) (clear g ss) h in
     let rest = read-all g ss w (b .1) in
-    choose (apart (s .0) g) (same (s .0) g) (b .0) (λ t. read-set-other (s .0) g (s .1) (setAll ss w) t ∙ rest) (λ t. read-same (s .0) g (s .1) (setAll ss w) t)
+    choose (apart (s .0) g) (sameBits (s .0) g) (b .0) (λ t. read-apart (s .0) g (s .1) (setAll ss w) t ∙ rest) (λ t. read-same (s .0) g (s .1) (setAll ss w) t)
   where
     choose : (a e : Bool) → T (a || e) → {x y z : ℕ} → (T a → x ≡ y) → (T e → x ≡ z) → x ≡ cond a y z
     choose true e h p q = p tt
     choose false true h p q = q tt
 
-    read-same : (f g : Field) (v w : ℕ) → T (same f g) → readField g (setField f v w) ≡ v % 2 ^ (bitsOf g .width)
+    read-same : (f g : Field) (v w : ℕ) → T (sameBits f g) → readField g (setField f v w) ≡ v % 2 ^ (bitsOf g .width)
     read-same f g v w t =
-        let b = and-both (eqb (bitsOf f .position) (bitsOf g .position)) (eqb (bitsOf f .width) (bitsOf g .width)) t in
+        let b = both (eqb (bitsOf f .position) (bitsOf g .position)) (eqb (bitsOf f .width) (bitsOf g .width)) t in
         rw (eqb→eq (bitsOf f .position) (bitsOf g .position) (b .0), eqb→eq (bitsOf f .width) (bitsOf g .width) (b .1)) (get-set (bitsOf g .position) (bitsOf g .width) v w)

@@ -112,6 +112,17 @@ bitsOf (Fsr f) = fsrBits f
 bitsOf (Tcr f) = tcrBits f
 bitsOf (Rsr f) = rsrBits f
 
+abbrev pub registerOf : Field → Register
+registerOf (Param f) = PARAM
+registerOf (Cr f) = CR
+registerOf (Sr f) = SR
+registerOf (Cfgr1 f) = CFGR1
+registerOf (Ccr f) = CCR
+registerOf (Fcr f) = FCR
+registerOf (Fsr f) = FSR
+registerOf (Tcr f) = TCR
+registerOf (Rsr f) = RSR
+
 -- a field's value in its register's word
 abbrev pub readField : Field → ℕ → ℕ
 readField f w = getBits (bitsOf f .position) (bitsOf f .width) w

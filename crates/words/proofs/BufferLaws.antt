@@ -1,15 +1,15 @@
 -- Whole buffers as words, for every width and both orders.
 -- Assumes nothing.
 use Prim.Native.Nat.{ℕ, zero, suc, _+_, _*_, _-_, _/_, _%_, _^_, _<_, _≤_, min}
-use mathlib.Core.Bool.{Bool, true, false}
+use mathlib.Core.Bool.{Bool, true, false, cond}
 use mathlib.Core.Path.{_≡_, refl, sym, ap, ap₂, _∙_, subst}
 use mathlib.Core.List.{List, [], _∷_, _++_, append-nil, append-assoc}
 use native.Mathlib.Numerals.{add-one, sub-one}
 use native.Mathlib.Omega.{arith}
 use native.Mathlib.Nat.{mul-suc, suc-mul, mul-zero, mul-comm, le-div-iff-mul-le, sub-zero, zero-sub, sub-eq-zero-of-le, zero-min, min-zero, suc-min-suc, suc-sub-suc, lt-div-mul-add, mul-le-mul-left}
-use borrow.Author.Tests.{leb-true, leb-false, le-leb, lt-leb}
+use borrow.Author.Tests.{leb-true, leb-false, eqb-true, le-leb, lt-leb}
 use borrow.Rule.Slice.PartMut.{putMid}
-use lib.Dec.{leb}
+use lib.Dec.{leb, eqb}
 use lib.ListN.{length, getD, take, drop, set, length-drop, length-append, drop-of-length-le}
 use lib.Pow.{pow-pos, ones-lt}
 use lib.Seq.{getD-drop, drop-nil, drop-drop, drop-at, take-all}
@@ -121,6 +121,12 @@ laid-full xs (b ∷ bs) h = absurd (omega arith)
 pub laid-one : (o : BitOrder) (w : ℕ) (bs : List ℕ) → w < 2 ^ 32 → 0 < length bs → set bs 0 w ≡ laid (unpack o 32 1 w) bs
 laid-one o w [] h n = absurd (omega arith)
 laid-one o w (b ∷ bs) h n = ap (λ (x : ℕ). x ∷ bs) (sym (first-one o w h))
+
+laid-whole : (xs bs : List ℕ) → length xs ≡ length bs → laid xs bs ≡ xs
+laid-whole [] [] h = refl
+laid-whole [] (b ∷ bs) h = absurd (omega arith)
+laid-whole (x ∷ xs) [] h = absurd (omega arith)
+laid-whole (x ∷ xs) (b ∷ bs) h = ap (λ (l : List ℕ). x ∷ l) (laid-whole xs bs (omega arith))
 
 -- what has no room is dropped
 pub laid-dropped : (xs ys bs : List ℕ) → length bs ≤ length xs → laid (xs ++ ys) bs ≡ laid xs bs
@@ -246,6 +252,26 @@ unpacked-many o k c w bs h = let e = lt-leb c (perWord k) h in (simp e, simp e)
 
 pub unpacked-few : (o : BitOrder) (k c n w : ℕ) (bs ys : List ℕ) → c ≤ perWord k → unpackCount k c ≡ n → ys ≡ laid (unpack o k n w) bs → Unpacked o k c w bs 0 ys
 unpacked-few o k c n w bs ys h en ey = let e = le-leb c (perWord k) h in (simp e, ey ∙ ap (λ (m : ℕ). laid (unpack o k m w) bs) (sym en) ∙ simp e)
+
+-- THERE AND BACK through the word entries, for a count of 1 or more
+counted : (k c : ℕ) → 1 ≤ c → c ≤ perWord k → unpackCount k c ≡ c
+counted k c h l = by-test (eqb k 32) refl
+  where
+    by-test : (b : Bool) → eqb k 32 ≡ b → cond b 1 c ≡ c
+    by-test true e = let k32 = eqb-true k 32 e in let m : c ≤ perWord 32 = subst (λ (n : ℕ). c ≤ perWord n) k32 l in omega arith
+    by-test false e = refl
+
+pub entry-unpack-pack : (o : BitOrder) (k : ℕ) (xs bs : List ℕ) → Elements k xs → 1 ≤ length xs → length xs ≤ perWord k
+    → unpacked o k (length xs) (packed o k xs .value) bs ≡ laid xs bs
+entry-unpack-pack o k xs bs b h l =
+    simp (le-leb (length xs) (perWord k) l, counted k (length xs) h l) (ap (λ (ys : List ℕ). laid ys bs) (unpack-pack o k xs b))
+
+pub entry-pack-unpack : (o : BitOrder) (k w : ℕ) (bs : List ℕ) → 1 ≤ length bs → length bs ≤ perWord k
+    → packed o k (unpacked o k (length bs) w bs) ≡ ok (w % 2 ^ (k * length bs))
+entry-pack-unpack o k w bs h l =
+    let e = le-leb (length bs) (perWord k) l in
+    let all : unpacked o k (length bs) w bs ≡ unpack o k (length bs) w = simp (e, counted k (length bs) h l) (laid-whole (unpack o k (length bs) w) bs (length-unpack o k (length bs) w)) in
+    rw all (simp (length-unpack o k (length bs) w, e) (ap ok (pack-unpack o k (length bs) w)))
 
 -- THE LOOP: it lays word i at its place, and may stop where total or buffer end
 pub unpack-step : (o : BitOrder) (k total i at c w : ℕ) (ws bs out ys : List ℕ) → i < length ws → perWord k * i ≤ total

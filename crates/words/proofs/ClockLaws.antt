@@ -1,5 +1,5 @@
--- The clock word reads back as what was asked; and SCK, source / (SCKDIV + 2), is at most the wanted clock exactly when the source is at
--- most 256 times that clock. SCK is compared by a product, source ≤ clock × (SCKDIV + 2), so that no rounding of the quotient enters.
+-- The clock word that is answered reads back as what was asked; and SCK is at most the wanted clock exactly when the source is at most 256
+-- times that clock.
 -- Assumes nothing.
 use Prim.Native.Nat.{ℕ, _+_, _*_, _-_, _/_, _<_, _≤_}
 use mathlib.Core.List.{List, [], _∷_}
@@ -12,10 +12,11 @@ use Rattle.manual.specs.declared.Field.the-variants.{Ccr}
 use Rattle.manual.specs.Manual.{readField}
 use Rattle.manual.proofs.ManualLaws.{Setting, read-all}
 use Rattle.words.specs.declared.clock.ClockConfigs.{ClockConfigs}
-use Rattle.words.specs.Clock.{halfDivider, configs, clockWord}
+use borrow.Author.Tests.{ne-eqb}
+use Rattle.words.specs.Clock.{halfDivider, configsOf, clocked, clockWord, SckAtMost}
 
 -- the four fields of CCR in a word
-pub record Reads (w : ℕ) (c : ClockConfigs) : Type 0 where
+pub record ClockReads (w : ℕ) (c : ClockConfigs) : Type 0 where
   pub sckdiv : readField (Ccr SCKDIV) w ≡ c .sckdiv
   pub dbt : readField (Ccr DBT) w ≡ c .dbt
   pub pcssck : readField (Ccr PCSSCK) w ≡ c .pcssck
@@ -25,7 +26,7 @@ settings : ClockConfigs → List Setting
 settings c = (Ccr SCKPCS, c .sckpcs) ∷ (Ccr PCSSCK, c .pcssck) ∷ (Ccr DBT, c .dbt) ∷ (Ccr SCKDIV, c .sckdiv) ∷ []
 
 -- READ BACK, of any four bytes
-pub clock-reads : (c : ClockConfigs) → c .sckpcs < 256 → c .pcssck < 256 → c .dbt < 256 → c .sckdiv < 256 → Reads (clockWord c) c
+pub clock-reads : (c : ClockConfigs) → c .sckpcs < 256 → c .pcssck < 256 → c .dbt < 256 → c .sckdiv < 256 → ClockReads (clockWord c) c
 unfolding settings
 clock-reads c hs hp hd hv = record {
   sckdiv = read-all (Ccr SCKDIV) (settings c) 0 tt ∙ mod-eq-of-lt hv;
@@ -34,14 +35,17 @@ clock-reads c hs hp hd hv = record {
   sckpcs = read-all (Ccr SCKPCS) (settings c) 0 tt ∙ mod-eq-of-lt hs;
 }
 
--- of the clock that is computed: SCKDIV = 2(h − 1), the others h − 1
-pub computed-reads : (source clock : ℕ) → Reads (clockWord (configs (halfDivider source clock))) (configs (halfDivider source clock))
-computed-reads source clock = clock-reads (configs (halfDivider source clock)) (omega arith) (omega arith) (omega arith) (omega arith)
+computed : (source clock : ℕ) → 0 < source → 0 < clock → clocked source clock ≡ record { number = 0; configs = configsOf (halfDivider source clock) }
+computed source clock hs hc = simp (ne-eqb source 0 (λ (e : source ≡ 0). omega arith), ne-eqb clock 0 (λ (e : clock ≡ 0). omega arith))
+
+-- READ BACK, of the clock that is answered: SCKDIV = 2(h − 1), the others h − 1
+pub clocked-reads : (source clock : ℕ) → 0 < source → 0 < clock → ClockReads (clockWord (clocked source clock .configs)) (configsOf (halfDivider source clock))
+clocked-reads source clock hs hc =
+    rw (computed source clock hs hc) (clock-reads (configsOf (halfDivider source clock)) (omega arith) (omega arith) (omega arith) (omega arith))
 
 -- SCK AT MOST THE WANTED CLOCK, exactly when source ≤ 256 × clock
-pub sck-at-most : (source clock : ℕ) → 0 < source → 0 < clock
-    → (source ≤ clock * (readField (Ccr SCKDIV) (clockWord (configs (halfDivider source clock))) + 2)) ↔ (source ≤ 256 * clock)
-sck-at-most s c hs hc = (λ h. to (rw (computed-reads s c .sckdiv) at h), λ h. rw (computed-reads s c .sckdiv) (from h))
+pub sck-at-most : (source clock : ℕ) → 0 < source → 0 < clock → SckAtMost source (clockWord (clocked source clock .configs)) clock ↔ (source ≤ 256 * clock)
+sck-at-most s c hs hc = (λ h. to (rw (clocked-reads s c hs hc .sckdiv) at h), λ h. rw (clocked-reads s c hs hc .sckdiv) (from h))
   where
     to : s ≤ c * (2 * (halfDivider s c - 1) + 2) → s ≤ 256 * c
     to h = rw mul-comm (le-trans h (mul-le-mul-left c (omega arith)))

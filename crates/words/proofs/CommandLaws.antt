@@ -18,6 +18,7 @@ use Rattle.words.specs.declared.mode.Polarity.{Polarity}
 use Rattle.words.specs.declared.mode.Polarity.the-variants.{IdleLow, IdleHigh}
 use Rattle.words.specs.declared.mode.Phase.{Phase}
 use Rattle.words.specs.declared.mode.Phase.the-variants.{CaptureOnFirstTransition, CaptureOnSecondTransition}
+use Rattle.words.specs.declared.mode.Mode.{Mode}
 use Rattle.words.specs.declared.mode.Pcs.{Pcs}
 use Rattle.words.specs.declared.mode.Pcs.the-variants.{Pcs0, Pcs1, Pcs2, Pcs3}
 use Rattle.words.specs.declared.transaction.Direction.the-variants.{Tx, Rx}
@@ -26,7 +27,7 @@ use Rattle.words.specs.declared.transaction.LpspiError.the-variants.{Fra
 use Rattle.words.specs.declared.transaction.Transaction.{Transaction}
 use Rattle.words.specs.declared.transaction.TransactionResult.the-variants.{Ok, Err}
 use Rattle.words.specs.Answer.{Answer, ok, refused, frameSizeNumber}
-use Rattle.words.specs.Command.{frameAccepted, framed, errorNumber, commandAnswer, flagOf, orderOf, pcsOf, phaseOf, polarityOf, Settings, settingsWord}
+use Rattle.words.specs.Command.{frameAccepted, framed, errorNumber, commandAnswer, flagOf, lsbfOf, pcsOf, cphaOf, cpolOf, commanded, busWord, Settings, settingsWord}
 
 all-three : (a b c : Bool) → (a && b && c) ≡ true → (a ≡ true) × (b ≡ true)
 all-three true true c h = (refl, refl)
@@ -42,8 +43,8 @@ framed-accepted f h = let b = accepted-between f h in rw h (ap ok (omega arith))
 pub framed-refused : (f : ℕ) → frameAccepted f ≡ false → refused frameSizeNumber ≡ framed f
 framed-refused f h = rw h
 
-pub framed-long : (f : ℕ) → 4096 < f → refused frameSizeNumber ≡ framed f
-framed-long f h = framed-refused f (none (leb 8 f) (leb f 4096) (not (eqb (f % 32) 1)) (lt-leb f 4096 h))
+pub refused-long : (f : ℕ) → 4096 < f → frameAccepted f ≡ false
+refused-long f h = none (leb 8 f) (leb f 4096) (not (eqb (f % 32) 1)) (lt-leb f 4096 h)
   where
     none : (a b c : Bool) → b ≡ false → (a && b && c) ≡ false
     none true false c e = refl
@@ -71,25 +72,25 @@ refused-size f e h = by-test (frameAccepted f) (some e) (ap (λ (a : Answer). a 
     by-test false h e = refl
 
 -- the ten fields of TCR in a word: the settings, and f bits a frame
-pub record Reads (w : ℕ) (s : Settings) (f : ℕ) : Type 0 where
+pub record CommandReads (w : ℕ) (s : Settings) (f : ℕ) : Type 0 where
   pub frameSize : readField (Tcr FRAMESZ) w ≡ f - 1
   pub transmitMask : readField (Tcr TXMSK) w ≡ flagOf (s .transmitMask)
   pub receiveMask : readField (Tcr RXMSK) w ≡ flagOf (s .receiveMask)
   pub continuing : readField (Tcr CONTC) w ≡ flagOf (s .continuing)
   pub continuous : readField (Tcr CONT) w ≡ flagOf (s .continuous)
   pub byteSwap : readField (Tcr BYSW) w ≡ flagOf (s .byteSwap)
-  pub order : readField (Tcr LSBF) w ≡ orderOf (s .order)
+  pub order : readField (Tcr LSBF) w ≡ lsbfOf (s .order)
   pub pcs : readField (Tcr PCS) w ≡ pcsOf (s .pcs)
-  pub phase : readField (Tcr CPHA) w ≡ phaseOf (s .mode .phase)
-  pub polarity : readField (Tcr CPOL) w ≡ polarityOf (s .mode .polarity)
+  pub phase : readField (Tcr CPHA) w ≡ cphaOf (s .mode .phase)
+  pub polarity : readField (Tcr CPOL) w ≡ cpolOf (s .mode .polarity)
 
 flag-lt : (b : Bool) → flagOf b % 2 ≡ flagOf b
 flag-lt true = refl
 flag-lt false = refl
 
-order-lt : (o : BitOrder) → orderOf o % 2 ≡ orderOf o
-order-lt Msb = refl
-order-lt Lsb = refl
+lsbf-lt : (o : BitOrder) → lsbfOf o % 2 ≡ lsbfOf o
+lsbf-lt Msb = refl
+lsbf-lt Lsb = refl
 
 pcs-lt : (p : Pcs) → pcsOf p % 4 ≡ pcsOf p
 pcs-lt Pcs0 = refl
@@ -97,30 +98,63 @@ pcs-lt Pcs1 = refl
 pcs-lt Pcs2 = refl
 pcs-lt Pcs3 = refl
 
-phase-lt : (p : Phase) → phaseOf p % 2 ≡ phaseOf p
-phase-lt CaptureOnFirstTransition = refl
-phase-lt CaptureOnSecondTransition = refl
+cpha-lt : (p : Phase) → cphaOf p % 2 ≡ cphaOf p
+cpha-lt CaptureOnFirstTransition = refl
+cpha-lt CaptureOnSecondTransition = refl
 
-polarity-lt : (p : Polarity) → polarityOf p % 2 ≡ polarityOf p
-polarity-lt IdleLow = refl
-polarity-lt IdleHigh = refl
+cpol-lt : (p : Polarity) → cpolOf p % 2 ≡ cpolOf p
+cpol-lt IdleLow = refl
+cpol-lt IdleHigh = refl
+
+-- what a driver's command sets, the last first
+abbrev bus : BitOrder → Mode → Pcs → ℕ → List Setting
+bus o m p f =
+    (Tcr PCS, pcsOf p) ∷ (Tcr CPOL, cpolOf (m .polarity)) ∷ (Tcr CPHA, cphaOf (m .phase)) ∷ (Tcr LSBF, lsbfOf o) ∷ (Tcr FRAMESZ, f - 1) ∷ []
+
+-- a driver's settings: no flag set
+abbrev pub plain : BitOrder → Mode → Pcs → Settings
+plain o m p = record {
+  byteSwap = false;
+  order = o;
+  receiveMask = false;
+  transmitMask = false;
+  continuous = false;
+  continuing = false;
+  mode = m;
+  pcs = p;
+}
 
 -- READ BACK: every field of an accepted command
-module _ (s : Settings) (f : ℕ) (h : frameAccepted f ≡ true) where
-  settings : List Setting
-  settings = (Tcr CONTC, flagOf (s .continuing)) ∷ (Tcr CONT, flagOf (s .continuous)) ∷ (Tcr TXMSK, flagOf (s .transmitMask)) ∷ (Tcr RXMSK, flagOf (s .receiveMask)) ∷ (Tcr BYSW, flagOf (s .byteSwap)) ∷ (Tcr PCS, pcsOf (s .pcs)) ∷ (Tcr CPOL, polarityOf (s .mode .polarity)) ∷ (Tcr CPHA, phaseOf (s .mode .phase)) ∷ (Tcr LSBF, orderOf (s .order)) ∷ (Tcr FRAMESZ, f - 1) ∷ []
+module _ (f : ℕ) (h : frameAccepted f ≡ true) where
+  pub command-reads : (s : Settings) → CommandReads (commanded (settingsWord s) f .value) s f
+  command-reads s = rw h (record {
+    frameSize = read-all (Tcr FRAMESZ) all 0 tt ∙ mod-eq-of-lt (let b = accepted-between f h in omega arith);
+    transmitMask = read-all (Tcr TXMSK) all 0 tt ∙ flag-lt (s .transmitMask);
+    receiveMask = read-all (Tcr RXMSK) all 0 tt ∙ flag-lt (s .receiveMask);
+    continuing = read-all (Tcr CONTC) all 0 tt ∙ flag-lt (s .continuing);
+    continuous = read-all (Tcr CONT) all 0 tt ∙ flag-lt (s .continuous);
+    byteSwap = read-all (Tcr BYSW) all 0 tt ∙ flag-lt (s .byteSwap);
+    order = read-all (Tcr LSBF) all 0 tt ∙ lsbf-lt (s .order);
+    pcs = read-all (Tcr PCS) all 0 tt ∙ pcs-lt (s .pcs);
+    phase = read-all (Tcr CPHA) all 0 tt ∙ cpha-lt (s .mode .phase);
+    polarity = read-all (Tcr CPOL) all 0 tt ∙ cpol-lt (s .mode .polarity);
+  })
+    where
+      all : List Setting
+      all =
+          (Tcr CONTC, flagOf (s .continuing)) ∷ (Tcr CONT, flagOf (s .continuous)) ∷ (Tcr TXMSK, flagOf (s .transmitMask)) ∷ (Tcr RXMSK, flagOf (s .receiveMask)) ∷ (Tcr BYSW, flagOf (s .byteSwap)) ∷ bus (s .order) (s .mode) (s .pcs) f
 
-  pub command-reads : Reads (settingsWord s (setField (Tcr FRAMESZ) (f - 1) 0)) s f
-  unfolding settings
-  command-reads = record {
-    frameSize = read-all (Tcr FRAMESZ) settings 0 tt ∙ mod-eq-of-lt (let b = accepted-between f h in omega arith);
-    transmitMask = read-all (Tcr TXMSK) settings 0 tt ∙ flag-lt (s .transmitMask);
-    receiveMask = read-all (Tcr RXMSK) settings 0 tt ∙ flag-lt (s .receiveMask);
-    continuing = read-all (Tcr CONTC) settings 0 tt ∙ flag-lt (s .continuing);
-    continuous = read-all (Tcr CONT) settings 0 tt ∙ flag-lt (s .continuous);
-    byteSwap = read-all (Tcr BYSW) settings 0 tt ∙ flag-lt (s .byteSwap);
-    order = read-all (Tcr LSBF) settings 0 tt ∙ order-lt (s .order);
-    pcs = read-all (Tcr PCS) settings 0 tt ∙ pcs-lt (s .pcs);
-    phase = read-all (Tcr CPHA) settings 0 tt ∙ phase-lt (s .mode .phase);
-    polarity = read-all (Tcr CPOL) settings 0 tt ∙ polarity-lt (s .mode .polarity);
-  }
+  -- and of a driver's command: what it does not set is 0
+  pub bus-reads : (o : BitOrder) (m : Mode) (p : Pcs) → CommandReads (commanded (busWord o m p) f .value) (plain o m p) f
+  bus-reads o m p = rw h (record {
+    frameSize = read-all (Tcr FRAMESZ) (bus o m p f) 0 tt ∙ mod-eq-of-lt (let b = accepted-between f h in omega arith);
+    transmitMask = read-all (Tcr TXMSK) (bus o m p f) 0 tt;
+    receiveMask = read-all (Tcr RXMSK) (bus o m p f) 0 tt;
+    continuing = read-all (Tcr CONTC) (bus o m p f) 0 tt;
+    continuous = read-all (Tcr CONT) (bus o m p f) 0 tt;
+    byteSwap = read-all (Tcr BYSW) (bus o m p f) 0 tt;
+    order = read-all (Tcr LSBF) (bus o m p f) 0 tt ∙ lsbf-lt o;
+    pcs = read-all (Tcr PCS) (bus o m p f) 0 tt ∙ pcs-lt p;
+    phase = read-all (Tcr CPHA) (bus o m p f) 0 tt ∙ cpha-lt (m .phase);
+    polarity = read-all (Tcr CPOL) (bus o m p f) 0 tt ∙ cpol-lt (m .polarity);
+  })

@@ -47,9 +47,9 @@ abbrev pub flagOf : Bool → ℕ
 flagOf true = 1
 flagOf false = 0
 
-abbrev pub orderOf : BitOrder → ℕ
-orderOf Msb = 0
-orderOf Lsb = 1
+abbrev pub lsbfOf : BitOrder → ℕ
+lsbfOf Msb = 0
+lsbfOf Lsb = 1
 
 abbrev pub pcsOf : Pcs → ℕ
 pcsOf Pcs0 = 0
@@ -58,24 +58,24 @@ pcsOf Pcs2 = 2
 pcsOf Pcs3 = 3
 
 -- 1 idles high
-abbrev pub polarityOf : Polarity → ℕ
-polarityOf IdleLow = 0
-polarityOf IdleHigh = 1
+abbrev pub cpolOf : Polarity → ℕ
+cpolOf IdleLow = 0
+cpolOf IdleHigh = 1
 
 -- 1 captures on the second transition
-abbrev pub phaseOf : Phase → ℕ
-phaseOf CaptureOnFirstTransition = 0
-phaseOf CaptureOnSecondTransition = 1
+abbrev pub cphaOf : Phase → ℕ
+cphaOf CaptureOnFirstTransition = 0
+cphaOf CaptureOnSecondTransition = 1
 
 -- what each setter makes of a command's word: its own field, and nothing else
 abbrev pub setFlag : TcrField → Bool → ℕ → ℕ
 setFlag f on w = setField (Tcr f) (flagOf on) w
 
 abbrev pub setOrder : BitOrder → ℕ → ℕ
-setOrder o w = setField (Tcr LSBF) (orderOf o) w
+setOrder o w = setField (Tcr LSBF) (lsbfOf o) w
 
 abbrev pub setMode : Mode → ℕ → ℕ
-setMode m w = setField (Tcr CPOL) (polarityOf (m .polarity)) (setField (Tcr CPHA) (phaseOf (m .phase)) w)
+setMode m w = setField (Tcr CPOL) (cpolOf (m .polarity)) (setField (Tcr CPHA) (cphaOf (m .phase)) w)
 
 abbrev pub setPcs : Pcs → ℕ → ℕ
 setPcs p w = setField (Tcr PCS) (pcsOf p) w

@@ -4,7 +4,7 @@ use Prim.Native.Nat.{ℕ}
 use Rattle.words.specs.declared.width.Width.{Width}
 use Rattle.words.specs.declared.width.Width.the-variants.{U8, U16, U32}
 
-abbrev pub bitsOf : Width → ℕ
-bitsOf U8 = 8
-bitsOf U16 = 16
-bitsOf U32 = 32
+abbrev pub widthBits : Width → ℕ
+widthBits U8 = 8
+widthBits U16 = 16
+widthBits U32 = 32

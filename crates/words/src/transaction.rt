@@ -2,7 +2,7 @@
 ghost use mathlib.Core.Path.{_≡_};
 ghost use Prim.Native.Nat.{_*_, _≤_};
 ghost use lib.ListN.{length};
-ghost use Rattle.words.specs.Command.{flagOf, orderOf, pcsOf, polarityOf, phaseOf, setFlag, setOrder, setMode, setPcs, frameAccepted, commandAnswer, framed};
+ghost use Rattle.words.specs.Command.{flagOf, lsbfOf, pcsOf, cpolOf, cphaOf, setFlag, setOrder, setMode, setPcs, frameAccepted, commandAnswer, framed};
 ghost use Rattle.manual.specs.declared.Tcr.the-variants.{BYSW, RXMSK, TXMSK, CONT, CONTC};
 use super::mode::Mode;
 use super::mode::Pcs;
@@ -42,7 +42,7 @@ fn flag(on: bool) -> u32
 }
 
 fn lsbf(order: BitOrder) -> u32
-    ensures { λ r. ⌜ r ≡ orderOf order ⌝ }
+    ensures { λ r. ⌜ r ≡ lsbfOf order ⌝ }
 {
     match order {
         BitOrder::Msb => 0,
@@ -51,7 +51,7 @@ fn lsbf(order: BitOrder) -> u32
 }
 
 fn cpol(polarity: Polarity) -> u32
-    ensures { λ r. ⌜ r ≡ polarityOf polarity ⌝ }
+    ensures { λ r. ⌜ r ≡ cpolOf polarity ⌝ }
 {
     match polarity {
         Polarity::IdleLow => 0,
@@ -60,7 +60,7 @@ fn cpol(polarity: Polarity) -> u32
 }
 
 fn cpha(phase: Phase) -> u32
-    ensures { λ r. ⌜ r ≡ phaseOf phase ⌝ }
+    ensures { λ r. ⌜ r ≡ cphaOf phase ⌝ }
 {
     match phase {
         Phase::CaptureOnFirstTransition => 0,

@@ -1,6 +1,6 @@
 // The three widths of an element: what the Rust has as the trait `Word`.
 ghost use mathlib.Core.Path.{_≡_};
-ghost use Rattle.words.specs.Width.{bitsOf};
+ghost use Rattle.words.specs.Width.{widthBits};
 ghost use Rattle.words.specs.Word.{perWord};
 ghost use Rattle.words.specs.Buffer.{dummy, wordCount};
 
@@ -13,7 +13,7 @@ pub enum Width {
 impl Width {
     // The elements that fit a FIFO word.
     pub fn per_word(self) -> usize
-        ensures { λ r. ⌜ r ≡ perWord (bitsOf self) ⌝ }
+        ensures { λ r. ⌜ r ≡ perWord (widthBits self) ⌝ }
     {
         match self {
             Width::U8 => 4,
@@ -24,7 +24,7 @@ impl Width {
 
     // What is sent where an element is missing.
     pub fn dummy(self) -> u32
-        ensures { λ r. ⌜ r ≡ dummy (bitsOf self) ⌝ }
+        ensures { λ r. ⌜ r ≡ dummy (widthBits self) ⌝ }
     {
         match self {
             Width::U8 => 0xFF,
@@ -35,7 +35,7 @@ impl Width {
 
     // The FIFO words that `len` elements take.
     pub fn word_count(self, len: usize) -> usize
-        ensures { λ r. ⌜ r ≡ wordCount (bitsOf self) len ⌝ }
+        ensures { λ r. ⌜ r ≡ wordCount (widthBits self) len ⌝ }
     {
         match self {
             Width::U8 => len / 4 + (len % 4 + 3) / 4,

@@ -133,7 +133,7 @@ fn command() {
         || {
             let (settings, mode, pcs) = black_box(&typed);
             left = black_box(original_shape::command_word(
-                settings.frame_size,
+                settings.frame_size as u16,
                 settings.byte_swap,
                 settings.bit_order,
                 settings.receive_mask,

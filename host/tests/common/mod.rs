@@ -79,7 +79,7 @@ impl Random {
     }
 
     /// A command of the given frame size; mode and PCS go over 3.
-    pub fn command(&mut self, frame_size: u16) -> Command {
+    pub fn command(&mut self, frame_size: u32) -> Command {
         Command {
             frame_size,
             byte_swap: self.flag(),

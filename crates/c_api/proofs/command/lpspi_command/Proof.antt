@@ -9,11 +9,23 @@ use Rattle.words.specs.declared.mode.Phase.{Phase}
 use Rattle.words.specs.declared.mode.Polarity.{Polarity}
 use Rattle.words.specs.declared.order.BitOrder.{BitOrder}
 use Rattle.words.specs.Command.{commandAnswer, commanded, setFlag, setOrder, setMode, setPcs, settingsWord}
-use Rattle.words.proofs.CommandLaws.{accepted-word, refused-size}
-use Rattle.c_api.specs.Host.{settings, kept, answered}
+use Rattle.c_api.specs.Host.{settingsFrom, kept, answered}
+use Rattle.words.proofs.CommandLaws.{accepted-word, refused-size, refused-long}
 use borrow.Author.Needs.{needs}
 use Rattle.c_api.proofs.command.lpspi_command.Statement.{statement}
 use Rattle.c_api.proofs.command.lpspi_command.Tie as tie
+
+moded : Polarity → Phase → Mode
+moded x y = record { polarity = x; phase = y }
+
+cast-if1 : tie.Need-cast-if1
+cast-if1 c = search needs
+
+returns : tie.Need-returns
+returns c = let no = refused-long (c .before .args .frame-size) (c .if1 .taken) in rw no
+
+cast-new : tie.Need-cast-new
+cast-new c = search needs
 
 new-requires : tie.Need-new-requires
 new-requires c κs = search needs
@@ -24,12 +36,9 @@ enum-known-command c = search needs
 enum-told : tie.Need-enum-told
 enum-told c = search needs
 
-moded : Polarity → Phase → Mode
-moded x y = record { polarity = x; phase = y }
-
-returns : tie.Need-returns
-returns c =
-    let a = c .before .before .before .args in
+returns-2 : tie.Need-returns-2
+returns-2 c =
+    let a = c .before .before .before .before .args in
     let no = refused-size (a .frame-size) (c .enum-told .given .0 .0) (ap commandAnswer (sym (c .enum-told .given .1)) ∙ c .before .before .new .ensures) in
     rw no
 
@@ -72,12 +81,12 @@ with-continuing-requires c κs = search needs
 as-raw-requires : tie.Need-as-raw-requires
 as-raw-requires c κs = search needs
 
-returns-2 : tie.Need-returns-2
+returns-3 : tie.Need-returns-3
 unfolding moded
-returns-2 c =
+returns-3 c =
     let p = c .before .before .before .before .before .before .before .before .before in
     let s = p .before .before .before .before .before in
-    let a = s .before .before .before .args in
+    let a = s .before .before .before .before .args in
     let yes = accepted-word (a .frame-size) _ (ap commandAnswer (sym (s .command .given .1)) ∙ s .before .before .new .ensures) in
     let order = p .with-bit-order .ensures ∙ ap₂ setOrder (p .before .order-of .ensures) (yes .1) in
     let mode = c .before .before .before .before .before .before .before .before .with-mode .ensures ∙ ap₂ setMode (ap₂ moded (p .before .before .before .polarity-of .ensures) (p .before .before .phase-of .ensures)) order in
@@ -93,10 +102,13 @@ pub lpspi-command-spec : {M : Type 1} → statement M
 lpspi-command-spec =
     tie.close
     (tie.spec
+    cast-if1
+    returns
+    cast-new
     new-requires
     enum-known-command
     enum-told
-    returns
+    returns-2
     polarity-of-requires
     phase-of-requires
     order-of-requires
@@ -110,4 +122,4 @@ lpspi-command-spec =
     with-continuous-requires
     with-continuing-requires
     as-raw-requires
-    returns-2)
+    returns-3)

@@ -3,7 +3,7 @@
 use Prim.Native.Nat.{_*_}
 use native.Mathlib.Nat.{mul-le-mul}
 use native.Mathlib.Omega.{arith}
-use Rattle.words.proofs.CommandLaws.{framed-long}
+use Rattle.words.proofs.CommandLaws.{framed-refused, refused-long}
 use borrow.Author.Needs.{needs}
 use Rattle.words.proofs.transaction.Transaction.new_words.Statement.{statement}
 use Rattle.words.proofs.transaction.Transaction.new_words.Tie as tie
@@ -11,7 +11,7 @@ use Rattle.words.proofs.transaction.Transaction.new_words.Tie as tie
 returns : tie.Need-returns
 returns c =
     let a = c .before .args in
-    framed-long (a .bits * a .len) (omega (arith, mul-le-mul {n₁ = 8} {m₁ = 513} {n₂ = a .bits} {m₂ = a .len} (c .before .pre .0) (omega arith)))
+    framed-refused (a .bits * a .len) (refused-long (a .bits * a .len) (omega (arith, mul-le-mul {n₁ = 8} {m₁ = 513} {n₂ = a .bits} {m₂ = a .len} (c .before .pre .0) (omega arith))))
 
 cast-new : tie.Need-cast-new
 cast-new c = search needs
