@@ -1,0 +1,50 @@
+-- `poll_answered` meets its contract: each branch is the definition's.
+-- Assumes nothing.
+use borrow.Author.Needs.{needs}
+use Rattle.machine.proofs.poll.poll_answered.Statement.{statement}
+use Rattle.machine.proofs.poll.poll_answered.Tie as tie
+
+enum-told : tie.Need-enum-told
+enum-told c = search needs
+
+failed-requires : tie.Need-failed-requires
+failed-requires c κs = search needs
+
+enum-told-2 : tie.Need-enum-told-2
+enum-told-2 c = search needs
+
+enum-told-3 : tie.Need-enum-told-3
+enum-told-3 c = search needs
+
+ready-requires : tie.Need-ready-requires
+ready-requires c κs = search needs
+
+returns : tie.Need-returns
+returns c = simp (c .before .before .enum-told .given .1, ← c .before .failed .ensures, c .if1 .taken)
+
+returns-2 : tie.Need-returns-2
+returns-2 c = simp (c .before .before .enum-told .given .1, ← c .before .failed .ensures, c .if1 .left)
+
+returns-3 : tie.Need-returns-3
+returns-3 c = simp (c .enum-told2 .given .1)
+
+returns-4 : tie.Need-returns-4
+returns-4 c = simp (c .before .before .enum-told3 .given .1, ← c .before .ready .ensures, c .if2 .taken)
+
+returns-5 : tie.Need-returns-5
+returns-5 c = simp (c .before .before .enum-told3 .given .1, ← c .before .ready .ensures, c .if2 .left)
+
+pub poll-answered-spec : {M : Type 1} → statement M
+poll-answered-spec =
+    tie.close
+    (tie.spec
+    enum-told
+    failed-requires
+    enum-told-2
+    enum-told-3
+    ready-requires
+    returns
+    returns-2
+    returns-3
+    returns-4
+    returns-5)

@@ -1,0 +1,167 @@
+-- `Transfer::answered` meets its contract: what follows an answer is the definition's, phase by phase.
+-- Assumes nothing.
+use Rattle.machine.specs.Transfer.{resumed}
+use borrow.Author.Needs.{needs}
+use Rattle.machine.proofs.transfer.Transfer.answered.Statement.{statement}
+use Rattle.machine.proofs.transfer.Transfer.answered.Tie as tie
+
+enum-known-phase : tie.Need-enum-known-phase
+enum-known-phase c = search needs
+
+after-space-requires : tie.Need-after-space-requires
+after-space-requires c κs = search needs
+
+noted-requires : tie.Need-noted-requires
+noted-requires c κs = search needs
+
+moved-requires : tie.Need-moved-requires
+moved-requires c κs = search needs
+
+enum-told : tie.Need-enum-told
+enum-told c = search needs
+
+send-turn-requires : tie.Need-send-turn-requires
+send-turn-requires c κs = search needs
+
+moved-requires-2 : tie.Need-moved-requires-2
+moved-requires-2 c κs = search needs
+
+enum-known-phase-2 : tie.Need-enum-known-phase-2
+enum-known-phase-2 c = search needs
+
+after-sending-requires : tie.Need-after-sending-requires
+after-sending-requires c κs = search needs
+
+noted-requires-2 : tie.Need-noted-requires-2
+noted-requires-2 c κs = search needs
+
+moved-requires-3 : tie.Need-moved-requires-3
+moved-requires-3 c κs = search needs
+
+enum-told-2 : tie.Need-enum-told-2
+enum-told-2 c = search needs
+
+one-sent-requires : tie.Need-one-sent-requires
+one-sent-requires c κs = search needs
+
+send-turn-requires-2 : tie.Need-send-turn-requires-2
+send-turn-requires-2 c κs = search needs
+
+moved-requires-4 : tie.Need-moved-requires-4
+moved-requires-4 c κs = search needs
+
+enum-known-phase-3 : tie.Need-enum-known-phase-3
+enum-known-phase-3 c = search needs
+
+after-receiving-requires : tie.Need-after-receiving-requires
+after-receiving-requires c κs = search needs
+
+noted-requires-3 : tie.Need-noted-requires-3
+noted-requires-3 c κs = search needs
+
+moved-requires-5 : tie.Need-moved-requires-5
+moved-requires-5 c κs = search needs
+
+enum-told-3 : tie.Need-enum-told-3
+enum-told-3 c = search needs
+
+one-received-requires : tie.Need-one-received-requires
+one-received-requires c κs = search needs
+
+receive-turn-requires : tie.Need-receive-turn-requires
+receive-turn-requires c κs = search needs
+
+moved-requires-6 : tie.Need-moved-requires-6
+moved-requires-6 c κs = search needs
+
+enum-known-phase-4 : tie.Need-enum-known-phase-4
+enum-known-phase-4 c = search needs
+
+answered-requires : tie.Need-answered-requires
+answered-requires c κs = search needs
+
+after-recovery-requires : tie.Need-after-recovery-requires
+after-recovery-requires c κs = search needs
+
+moved-requires-7 : tie.Need-moved-requires-7
+moved-requires-7 c κs = search needs
+
+enum-known-phase-5 : tie.Need-enum-known-phase-5
+enum-known-phase-5 c = search needs
+
+moved-requires-8 : tie.Need-moved-requires-8
+moved-requires-8 c κs = search needs
+
+returns : tie.Need-returns
+unfolding resumed
+returns c = simp (c .before .before .before .before .phase .given .1, c .before .before .after-space .ensures, c .before .noted .ensures, c .moved .ensures)
+
+returns-2 : tie.Need-returns-2
+unfolding resumed
+returns-2 c = simp (c .before .before .enum-told .given .1, c .before .send-turn .ensures, c .moved2 .ensures)
+
+returns-3 : tie.Need-returns-3
+unfolding resumed
+returns-3 c = simp (c .before .before .before .before .phase2 .given .1, c .before .before .after-sending .ensures, c .before .noted2 .ensures, c .moved3 .ensures)
+
+returns-4 : tie.Need-returns-4
+unfolding resumed
+returns-4 c = simp (c .before .before .before .enum-told2 .given .1, c .before .before .one-sent .ensures, c .before .send-turn2 .ensures, c .moved4 .ensures)
+
+returns-5 : tie.Need-returns-5
+unfolding resumed
+returns-5 c = simp (c .before .before .before .before .phase3 .given .1, c .before .before .after-receiving .ensures, c .before .noted3 .ensures, c .moved5 .ensures)
+
+returns-6 : tie.Need-returns-6
+unfolding resumed
+returns-6 c = simp (c .before .before .before .enum-told3 .given .1, c .before .before .one-received .ensures, c .before .receive-turn .ensures, c .moved6 .ensures)
+
+returns-7 : tie.Need-returns-7
+unfolding resumed
+returns-7 c = simp (c .before .before .before .before .phase4 .given .1, c .before .before .answered .ensures, c .before .after-recovery .ensures, c .moved7 .ensures)
+
+returns-8 : tie.Need-returns-8
+unfolding resumed
+returns-8 c = simp (c .before .before .phase5 .given .1, c .moved8 .ensures)
+
+pub answered-spec : {M : Type 1} → statement M
+answered-spec =
+    tie.close
+    (tie.spec
+    enum-known-phase
+    after-space-requires
+    noted-requires
+    moved-requires
+    enum-told
+    send-turn-requires
+    moved-requires-2
+    enum-known-phase-2
+    after-sending-requires
+    noted-requires-2
+    moved-requires-3
+    enum-told-2
+    one-sent-requires
+    send-turn-requires-2
+    moved-requires-4
+    enum-known-phase-3
+    after-receiving-requires
+    noted-requires-3
+    moved-requires-5
+    enum-told-3
+    one-received-requires
+    receive-turn-requires
+    moved-requires-6
+    enum-known-phase-4
+    answered-requires
+    after-recovery-requires
+    moved-requires-7
+    enum-known-phase-5
+    moved-requires-8
+    returns
+    returns-2
+    returns-3
+    returns-4
+    returns-5
+    returns-6
+    returns-7
+    returns-8)

@@ -1,0 +1,17 @@
+-- `after_recovery` meets its contract: each branch is the definition's.
+-- Assumes nothing.
+use borrow.Author.Needs.{needs}
+use Rattle.machine.proofs.transfer.after_recovery.Statement.{statement}
+use Rattle.machine.proofs.transfer.after_recovery.Tie as tie
+
+done-requires : tie.Need-done-requires
+done-requires c κs = search needs
+
+returns : tie.Need-returns
+returns c = simp (← c .before .done .ensures, c .if1 .taken)
+
+returns-2 : tie.Need-returns-2
+returns-2 c = simp (← c .before .done .ensures, c .if1 .left)
+
+pub after-recovery-spec : {M : Type 1} → statement M
+after-recovery-spec = tie.close (tie.spec done-requires returns returns-2)

@@ -1,0 +1,130 @@
+-- The machine of a transfer (document 01, Accesses and transfers): transmit poll until ready; TCR; then words. The sending side goes until it
+-- must wait or ends, then the receiving side, over again; an error in one ends both.
+-- Assumes nothing.
+use Prim.Native.Nat.{ℕ, _+_}
+use mathlib.Core.Bool.{cond}
+use lib.Dec.{ltb}
+use Rattle.manual.specs.declared.Register.the-variants.{TCR}
+use Rattle.words.specs.declared.transaction.Direction.{Direction}
+use Rattle.words.specs.declared.transaction.Direction.the-variants.{Tx, Rx}
+use Rattle.words.specs.declared.transaction.LpspiError.the-variants.{Fifo}
+use Rattle.machine.specs.declared.access.Access.{Access}
+use Rattle.machine.specs.declared.access.Access.the-variants.{Write, Done, Send as SendWord, Receive as ReceiveWord}
+use Rattle.machine.specs.declared.access.Ending.{Ending}
+use Rattle.machine.specs.declared.access.Ending.the-variants.{Ok, Err}
+use Rattle.machine.specs.declared.driver.Lpspi.{Lpspi}
+use Rattle.machine.specs.declared.poll.Poll.{Poll}
+use Rattle.machine.specs.declared.poll.Poll.the-variants.{Status, Sizes, Counts}
+use Rattle.machine.specs.declared.poll.Polled.{Polled}
+use Rattle.machine.specs.declared.poll.Polled.the-variants.{Failed, Next, Ready, Unready}
+use Rattle.machine.specs.declared.reset.Reset.{Reset}
+use Rattle.machine.specs.declared.transfer.Phase.{Phase}
+use Rattle.machine.specs.declared.transfer.Phase.the-variants.{Space, Command, Sending, Send, Receiving, Receive, Recovery, Ended}
+use Rattle.machine.specs.declared.transfer.Work.{Work}
+use Rattle.machine.specs.declared.transfer.Transfer.{Transfer}
+use Rattle.machine.specs.Poll.{pollAccess, polled}
+use Rattle.machine.specs.Reset.{resetStart, resetAccess, resetAfter, resetDone}
+
+abbrev pub at : Phase → Work → Reset → Transfer
+at p w r = record { phase = p; work = w; reset = r }
+
+-- FIFO words to send and to receive, none of them done
+abbrev work : ℕ → ℕ → ℕ → Work
+work command send receive =
+    record { command = command; send = send; receive = receive; sent = 0; received = 0; param = 0 }
+
+abbrev pub startTransfer : Lpspi → ℕ → ℕ → ℕ → Transfer
+startTransfer d command send receive = at (Space Status) (work command send receive) (resetStart (d .cache))
+
+-- an empty transfer, or a refused one, makes no access
+abbrev pub endedTransfer : Lpspi → Ending → Transfer
+endedTransfer d e = at (Ended e) (work 0 0 0) (resetStart (d .cache))
+
+-- the sending side goes on while it has words left; then the receiving side; when both have ended, Ok
+abbrev pub sendTurn : Work → Phase
+sendTurn w =
+    cond (ltb (w .sent) (w .send)) (Sending Status) (cond (ltb (w .received) (w .receive)) (Receiving Status) (Ended Ok))
+
+abbrev pub receiveTurn : Work → Phase
+receiveTurn w =
+    cond (ltb (w .received) (w .receive)) (Receiving Status) (cond (ltb (w .sent) (w .send)) (Sending Status) (Ended Ok))
+
+-- one more, up to the limit
+abbrev pub counted : ℕ → ℕ → ℕ
+counted n limit = cond (ltb n limit) (n + 1) n
+
+-- PARAM's answer is noted
+abbrev pub noted : Poll → Work → ℕ → Work
+noted Status w v = w
+noted Sizes w v =
+    record { command = w .command; send = w .send; receive = w .receive; sent = w .sent; received = w .received; param = v }
+noted Counts w v = w
+
+abbrev pub oneSent : Work → Work
+oneSent w =
+    record { command = w .command; send = w .send; receive = w .receive; sent = counted (w .sent) (w .send); received = w .received; param = w .param }
+
+abbrev pub oneReceived : Work → Work
+oneReceived w =
+    record { command = w .command; send = w .send; receive = w .receive; sent = w .sent; received = counted (w .received) (w .receive); param = w .param }
+
+-- an error before TCR does no recovery
+abbrev pub spaceBy : Polled → Phase
+spaceBy Failed = Ended (Err (Fifo Tx))
+spaceBy (Next p) = Space p
+spaceBy Ready = Command
+spaceBy Unready = Space Status
+
+-- a later one does; the side that must wait gives the turn to the other
+abbrev pub sendingBy : Work → Polled → Phase
+sendingBy w Failed = Recovery Tx
+sendingBy w (Next p) = Sending p
+sendingBy w Ready = Send
+sendingBy w Unready = receiveTurn w
+
+abbrev pub receivingBy : Work → Polled → Phase
+receivingBy w Failed = Recovery Rx
+receivingBy w (Next p) = Receiving p
+receivingBy w Ready = Receive
+receivingBy w Unready = sendTurn w
+
+abbrev pub afterSpace : Poll → Work → ℕ → Phase
+afterSpace p w v = spaceBy (polled Tx p (w .param) v)
+
+abbrev pub afterSending : Poll → Work → ℕ → Phase
+afterSending p w v = sendingBy w (polled Tx p (w .param) v)
+
+abbrev pub afterReceiving : Poll → Work → ℕ → Phase
+afterReceiving p w v = receivingBy w (polled Rx p (w .param) v)
+
+-- the error is answered once the recovery is done
+abbrev pub afterRecovery : Direction → Reset → Phase
+afterRecovery d r = cond (resetDone r) (Ended (Err (Fifo d))) (Recovery d)
+
+-- THE ACCESS THAT IS DUE
+abbrev dueIn : Phase → Work → Reset → Access
+dueIn (Space p) w r = pollAccess p
+dueIn Command w r = Write TCR (w .command)
+dueIn (Sending p) w r = pollAccess p
+dueIn Send w r = SendWord (w .sent)
+dueIn (Receiving p) w r = pollAccess p
+dueIn Receive w r = ReceiveWord (w .received)
+dueIn (Recovery d) w r = resetAccess r
+dueIn (Ended e) w r = Done e
+
+unfoldable pub dueAccess : Transfer → Access
+dueAccess t = dueIn (t .phase) (t .work) (t .reset)
+
+-- THE TRANSFER AFTER IT, which was answered v
+abbrev resumedIn : Phase → Work → Reset → ℕ → Transfer
+resumedIn (Space p) w r v = at (afterSpace p w v) (noted p w v) r
+resumedIn Command w r v = at (sendTurn w) w r
+resumedIn (Sending p) w r v = at (afterSending p w v) (noted p w v) r
+resumedIn Send w r v = at (sendTurn (oneSent w)) (oneSent w) r
+resumedIn (Receiving p) w r v = at (afterReceiving p w v) (noted p w v) r
+resumedIn Receive w r v = at (receiveTurn (oneReceived w)) (oneReceived w) r
+resumedIn (Recovery d) w r v = at (afterRecovery d (resetAfter r v)) w (resetAfter r v)
+resumedIn (Ended e) w r v = at (Ended e) w r
+
+unfoldable pub resumed : Transfer → ℕ → Transfer
+resumed t v = resumedIn (t .phase) (t .work) (t .reset) v

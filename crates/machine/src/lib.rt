@@ -1,0 +1,8 @@
+// The driver value, and the machines of a transfer and of a flush: each says which register access is due and goes on by its answer.
+// They touch no register and no buffer.
+pub mod access;
+pub mod driver;
+pub mod flush;
+pub mod poll;
+pub mod reset;
+pub mod transfer;

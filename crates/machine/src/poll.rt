@@ -1,0 +1,86 @@
+// One poll of a FIFO: the status, the FIFO sizes, the counts.
+ghost use mathlib.Core.Path.{_≡_};
+ghost use Rattle.machine.specs.Poll.{pollAccess, polled, depth, failed, ready};
+use crate::access::Access;
+use manual::Field;
+use manual::Fsr;
+use manual::Param;
+use manual::Register;
+use manual::Sr;
+use words::transaction::Direction;
+
+// The read that is due.
+pub enum Poll {
+    Status,
+    Sizes,
+    Counts,
+}
+
+// What a poll comes to by an answer.
+pub enum Polled {
+    Failed,
+    Next(Poll),
+    Ready,
+    Unready,
+}
+
+pub(crate) fn poll_access(poll: Poll) -> Access
+    ensures { λ r. ⌜ r ≡ pollAccess poll ⌝ }
+{
+    match poll {
+        Poll::Status => Access::Read(Register::SR),
+        Poll::Sizes => Access::Read(Register::PARAM),
+        Poll::Counts => Access::Read(Register::FSR),
+    }
+}
+
+// The words that a FIFO of this exponent is taken to hold.
+pub(crate) fn depth(exponent: u32) -> u32
+    ensures { λ r. ⌜ r ≡ depth exponent ⌝ }
+{
+    exponent
+}
+
+// The direction's error flag is set.
+fn failed(direction: Direction, status: u32) -> bool
+    ensures { λ r. ⌜ r ≡ failed direction status ⌝ }
+{
+    match direction {
+        Direction::Tx => Field::Sr(Sr::TEF).read(status) == 1,
+        Direction::Rx => Field::Sr(Sr::REF).read(status) == 1,
+    }
+}
+
+// There is space to transmit, or a word to receive.
+fn ready(direction: Direction, param: u32, counts: u32) -> bool
+    ensures { λ r. ⌜ r ≡ ready direction param counts ⌝ }
+{
+    match direction {
+        Direction::Tx => {
+            Field::Fsr(Fsr::TXCOUNT).read(counts) < depth(Field::Param(Param::TXFIFO).read(param))
+        }
+        Direction::Rx => 0 < Field::Fsr(Fsr::RXCOUNT).read(counts),
+    }
+}
+
+pub(crate) fn poll_answered(direction: Direction, poll: Poll, param: u32, value: u32) -> Polled
+    ensures { λ r. ⌜ r ≡ polled direction poll param value ⌝ }
+{
+    match poll {
+        Poll::Status => {
+            if failed(direction, value) {
+                Polled::Failed
+            } else {
+                Polled::Next(Poll::Sizes)
+            }
+        }
+        Poll::Sizes => Polled::Next(Poll::Counts),
+        Poll::Counts => {
+            if ready(direction, param, value) {
+                Polled::Ready
+            } else {
+                Polled::Unready
+            }
+        }
+    }
+}

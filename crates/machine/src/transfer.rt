@@ -1,0 +1,246 @@
+// The machine of a transfer.
+ghost use mathlib.Core.Path.{_≡_};
+ghost use Rattle.machine.specs.Transfer.{startTransfer, endedTransfer, sendTurn, receiveTurn, counted, noted, oneSent, oneReceived, afterSpace, afterSending, afterReceiving, afterRecovery, at, dueAccess, resumed};
+use crate::access::Access;
+use crate::access::Ending;
+use crate::driver::Lpspi;
+use crate::poll::Poll;
+use crate::poll::Polled;
+use crate::poll::poll_access;
+use crate::poll::poll_answered;
+use crate::reset::Reset;
+use manual::Register;
+use words::transaction::Direction;
+use words::transaction::LpspiError;
+
+// Where a transfer stands.
+pub enum Phase {
+    // Waiting for a place for the command.
+    Space(Poll),
+    Command,
+    // Waiting for a place for a word, and sending it.
+    Sending(Poll),
+    Send,
+    // Waiting for a word, and receiving it.
+    Receiving(Poll),
+    Receive,
+    Recovery(Direction),
+    Ended(Ending),
+}
+
+// What a transfer works with: TCR's word, the FIFO words to send and to receive and those done, and PARAM as last read.
+pub struct Work {
+    pub command: u32,
+    pub send: usize,
+    pub receive: usize,
+    pub sent: usize,
+    pub received: usize,
+    pub param: u32,
+}
+
+pub struct Transfer {
+    phase: Phase,
+    work: Work,
+    reset: Reset,
+}
+
+// The sending side's turn: it goes on if it has words left, else the receiving side, else the transfer has ended.
+fn send_turn(work: Work) -> Phase
+    ensures { λ r. ⌜ r ≡ sendTurn work ⌝ }
+{
+    if work.sent < work.send {
+        return Phase::Sending(Poll::Status);
+    }
+    if work.received < work.receive {
+        return Phase::Receiving(Poll::Status);
+    }
+    Phase::Ended(Ending::Ok)
+}
+
+fn receive_turn(work: Work) -> Phase
+    ensures { λ r. ⌜ r ≡ receiveTurn work ⌝ }
+{
+    if work.received < work.receive {
+        return Phase::Receiving(Poll::Status);
+    }
+    if work.sent < work.send {
+        return Phase::Sending(Poll::Status);
+    }
+    Phase::Ended(Ending::Ok)
+}
+
+fn counted(n: usize, limit: usize) -> usize
+    ensures { λ r. ⌜ r ≡ counted n limit ⌝ }
+{
+    if n < limit { n + 1 } else { n }
+}
+
+// PARAM is noted when it is read.
+fn noted(poll: Poll, work: Work, value: u32) -> Work
+    ensures { λ r. ⌜ r ≡ noted poll work value ⌝ }
+{
+    let mut w = work;
+    match poll {
+        Poll::Status => w,
+        Poll::Sizes => {
+            w.param = value;
+            w
+        }
+        Poll::Counts => w,
+    }
+}
+
+fn one_sent(work: Work) -> Work
+    ensures { λ r. ⌜ r ≡ oneSent work ⌝ }
+{
+    let mut w = work;
+    w.sent = counted(work.sent, work.send);
+    w
+}
+
+fn one_received(work: Work) -> Work
+    ensures { λ r. ⌜ r ≡ oneReceived work ⌝ }
+{
+    let mut w = work;
+    w.received = counted(work.received, work.receive);
+    w
+}
+
+fn after_space(poll: Poll, work: Work, value: u32) -> Phase
+    ensures { λ r. ⌜ r ≡ afterSpace poll work value ⌝ }
+{
+    match poll_answered(Direction::Tx, poll, work.param, value) {
+        Polled::Failed => Phase::Ended(Ending::Err(LpspiError::Fifo(Direction::Tx))),
+        Polled::Next(p) => Phase::Space(p),
+        Polled::Ready => Phase::Command,
+        Polled::Unready => Phase::Space(Poll::Status),
+    }
+}
+
+fn after_sending(poll: Poll, work: Work, value: u32) -> Phase
+    ensures { λ r. ⌜ r ≡ afterSending poll work value ⌝ }
+{
+    match poll_answered(Direction::Tx, poll, work.param, value) {
+        Polled::Failed => Phase::Recovery(Direction::Tx),
+        Polled::Next(p) => Phase::Sending(p),
+        Polled::Ready => Phase::Send,
+        Polled::Unready => receive_turn(work),
+    }
+}
+
+fn after_receiving(poll: Poll, work: Work, value: u32) -> Phase
+    ensures { λ r. ⌜ r ≡ afterReceiving poll work value ⌝ }
+{
+    match poll_answered(Direction::Rx, poll, work.param, value) {
+        Polled::Failed => Phase::Recovery(Direction::Rx),
+        Polled::Next(p) => Phase::Receiving(p),
+        Polled::Ready => Phase::Receive,
+        Polled::Unready => send_turn(work),
+    }
+}
+
+fn after_recovery(direction: Direction, reset: Reset) -> Phase
+    ensures { λ r. ⌜ r ≡ afterRecovery direction reset ⌝ }
+{
+    if reset.done() {
+        return Phase::Ended(Ending::Err(LpspiError::Fifo(direction)));
+    }
+    Phase::Recovery(direction)
+}
+
+impl Transfer {
+    // A transfer with that command of so many FIFO words.
+    pub fn start(driver: Lpspi, command: u32, send: usize, receive: usize) -> Self
+        ensures { λ r. ⌜ r ≡ startTransfer driver command send receive ⌝ }
+    {
+        Transfer {
+            phase: Phase::Space(Poll::Status),
+            work: Work {
+                command,
+                send,
+                receive,
+                sent: 0,
+                received: 0,
+                param: 0,
+            },
+            reset: Reset::new(driver.ccr_cache()),
+        }
+    }
+
+    // A transfer that makes no access: it was empty, or refused.
+    pub fn ended(driver: Lpspi, ending: Ending) -> Self
+        ensures { λ r. ⌜ r ≡ endedTransfer driver ending ⌝ }
+    {
+        Transfer {
+            phase: Phase::Ended(ending),
+            work: Work {
+                command: 0,
+                send: 0,
+                receive: 0,
+                sent: 0,
+                received: 0,
+                param: 0,
+            },
+            reset: Reset::new(driver.ccr_cache()),
+        }
+    }
+
+    // The access that is due.
+    pub fn next(self) -> Access
+        ensures { λ r. ⌜ r ≡ dueAccess self ⌝ }
+    {
+        let phase = self.phase;
+        let work = self.work;
+        match phase {
+            Phase::Space(p) => poll_access(p),
+            Phase::Command => Access::Write(Register::TCR, work.command),
+            Phase::Sending(p) => poll_access(p),
+            Phase::Send => Access::Send(work.sent),
+            Phase::Receiving(p) => poll_access(p),
+            Phase::Receive => Access::Receive(work.received),
+            Phase::Recovery(_) => {
+                let reset = self.reset;
+                reset.next()
+            }
+            Phase::Ended(e) => Access::Done(e),
+        }
+    }
+
+    // The transfer after that access, which answered `value`.
+    pub fn answered(self, value: u32) -> Self
+        ensures { λ r. ⌜ r ≡ resumed self value ⌝ }
+    {
+        let phase = self.phase;
+        let work = self.work;
+        let reset = self.reset;
+        match phase {
+            Phase::Space(p) => moved(after_space(p, work, value), noted(p, work, value), reset),
+            Phase::Command => moved(send_turn(work), work, reset),
+            Phase::Sending(p) => moved(after_sending(p, work, value), noted(p, work, value), reset),
+            Phase::Send => {
+                let w = one_sent(work);
+                moved(send_turn(w), w, reset)
+            }
+            Phase::Receiving(p) => moved(
+                after_receiving(p, work, value),
+                noted(p, work, value),
+                reset,
+            ),
+            Phase::Receive => {
+                let w = one_received(work);
+                moved(receive_turn(w), w, reset)
+            }
+            Phase::Recovery(d) => {
+                let r = reset.answered(value);
+                moved(after_recovery(d, r), work, r)
+            }
+            Phase::Ended(e) => moved(Phase::Ended(e), work, reset),
+        }
+    }
+}
+
+fn moved(phase: Phase, work: Work, reset: Reset) -> Transfer
+    ensures { λ r. ⌜ r ≡ at phase work reset ⌝ }
+{
+    Transfer { phase, work, reset }
+}
