@@ -1,0 +1,4 @@
+// Runs over a script: calls of the driver with a budget of accesses, the answers to their reads, and a log.
+pub mod flush;
+mod log;
+pub mod result;
