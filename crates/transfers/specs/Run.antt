@@ -13,6 +13,7 @@ use Rattle.machine.specs.declared.access.Access.the-variants.{Read, Write, Send
 use Rattle.machine.specs.declared.access.Ending.{Ending}
 use Rattle.machine.specs.declared.access.Ending.the-variants.{Stopped, Limits}
 use Rattle.machine.specs.declared.driver.Lpspi.{Lpspi}
+use Rattle.machine.specs.Access.{numberOf}
 use Rattle.transfers.specs.declared.result.RunResult.{RunResult}
 
 -- entry of a run, 5: budget over 8,000, or log shorter than twice the budget
@@ -126,13 +127,14 @@ endingOf (Send i) = Stopped
 endingOf (Receive i) = Stopped
 endingOf (Done e) = e
 
--- what a call leaves: its result and its log
+-- what a call leaves: its result, document 01's number of it, and its log
 pub record Left : Type 0 where
   pub result : RunResult
+  pub number : ℕ
   pub log : List ℕ
 
 abbrev pub left : RunResult → List ℕ → Left
-left r log = record { result = r; log = log }
+left r log = record { result = r; number = numberOf (r .ending); log = log }
 
 -- number 5: all as found
 abbrev pub refused : Lpspi → List ℕ → Left
