@@ -2,9 +2,9 @@
 -- Assumes nothing.
 use Prim.Native.Nat.{ℕ, _+_}
 use mathlib.Core.Bool.{Bool, cond}
-use mathlib.Core.List.{List, [], _∷_}
+use mathlib.Core.List.{List, [], _∷_, _++_}
 use lib.Dec.{leb, eqb}
-use lib.ListN.{getD, set}
+use lib.ListN.{length, getD, set}
 use Rattle.manual.specs.declared.Ccr.the-variants.{DBT, SCKDIV}
 use Rattle.manual.specs.declared.Cr.the-variants.{MEN, RST, RTF, RRF}
 use Rattle.manual.specs.declared.Field.the-variants.{Cr, Sr, Ccr as CcrField}
@@ -23,9 +23,9 @@ use Rattle.machine.specs.declared.reset.Move.{Move}
 use Rattle.machine.specs.declared.reset.Move.the-variants.{Keep, KeepEnabled, Look, Wait, WriteCr, Put, ClearErrors}
 use Rattle.machine.specs.declared.reset.Reset.{Reset}
 
--- the moves, in the Rust's order
-abbrev pub recovery : List Move
-recovery =
+-- the moves of `soft_reset`, in the Rust's order
+abbrev pub softReset : List Move
+softReset =
     Keep Ier
     ∷ Keep Der
     ∷ Keep Cfgr0
@@ -52,8 +52,11 @@ recovery =
     ∷ Put Fcr
     ∷ Look
     ∷ WriteCr Restore
-    ∷ ClearErrors
     ∷ []
+
+-- `recover_from_error`: the reset, then the flags cleared
+abbrev pub recovery : List Move
+recovery = softReset ++ (ClearErrors ∷ [])
 
 abbrev pub moveAt : ℕ → Move
 moveAt place = getD recovery place ClearErrors
@@ -138,7 +141,7 @@ resetAccess s = moveAccess (moveAt (s .place)) s
 
 -- past the end nothing moves
 abbrev pub resetDone : Reset → Bool
-resetDone s = leb 27 (s .place)
+resetDone s = leb (length recovery) (s .place)
 
 abbrev pub resetAfter : Reset → ℕ → Reset
 resetAfter s v = cond (resetDone s) s (moved (moveAt (s .place)) s v)

@@ -14,7 +14,7 @@ use machine::flush::Flush;
 use manual::Register;
 
 // What the loop comes to.
-pub struct Flushed {
+pub(crate) struct Flushed {
     pub ending: Ending,
     pub accesses: usize,
 }
