@@ -1,12 +1,12 @@
 -- The laws of a run, for every machine: a run of a + b accesses, a machine that is halted, the count of accesses, the log, and what a run
 -- depends on.
 -- Assumes nothing.
-use Prim.Native.Nat.{ℕ, zero, suc, _+_, _-_, _*_, _<_, _≤_}
+use Prim.Native.Nat.{ℕ, zero, suc, _+_, _*_, _<_, _≤_}
 use mathlib.Core.Bool.{Bool, true, false, cond}
 use mathlib.Core.List.{List, [], _∷_, _++_, append-assoc}
 use mathlib.Core.Path.{_≡_, refl, sym, ap, ap₂, _∙_}
 use native.Mathlib.Nat.{zero-add, suc-add}
-use native.Mathlib.Numerals.{add-one, add-two, sub-one}
+use native.Mathlib.Numerals.{add-one, add-two}
 use native.Mathlib.Omega.{arith}
 use lib.ListN.{length, getD, set, drop, length-append}
 use lib.Seq.{drop-cons, set-at, append-snoc}
@@ -22,18 +22,7 @@ module _ {ℓ} {A : Type ℓ} (f : A → A) where
   times-add zero b s = rw zero-add
   times-add (suc a) b s = rw suc-add (times-add a b (f s))
 
-  -- one step, and one fewer to go
-  pub times-first : (n : ℕ) (s : A) → 0 < n → times f n s ≡ times f (n - 1) (f s)
-  unfolding times
-  times-first zero s h = absurd (omega arith)
-  times-first (suc n) s h = rw sub-one
-
-  pub times-none : (n : ℕ) (s : A) → n ≤ 0 → times f n s ≡ s
-  unfolding times
-  times-none zero s h = refl
-  times-none (suc n) s h = absurd (omega arith)
-
-  -- and one step after them
+  -- n + 1 steps are n steps, and one after them
   times-last : (n : ℕ) (s : A) → times f (suc n) s ≡ f (times f n s)
   unfolding times
   times-last zero s = refl
@@ -56,11 +45,6 @@ module _ {M : Type 0} (next : M → Access) (resume : M → ℕ → M) (words : 
   run-halted n s e = times-still (step next resume words script) n s (rw e)
 
   -- one access more
-  pub run-goes : (n : ℕ) (s : State M) → 0 < n → halted (next (s .machine)) (s .used) (length script) ≡ false
-      → run next resume words script n s ≡ run next resume words script (n - 1) (moved next resume words script (next (s .machine)) s)
-  unfolding step
-  run-goes n s h e = times-first (step next resume words script) n s h ∙ ap (times (step next resume words script) (n - 1)) (rw e)
-
   pub run-last : (n : ℕ) (s : State M) → run next resume words script (n + 1) s ≡ step next resume words script (run next resume words script n s)
   run-last n s = ap (λ (m : ℕ). times (step next resume words script) m s) (add-one n) ∙ times-last (step next resume words script) n s
 
