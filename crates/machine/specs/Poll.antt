@@ -21,7 +21,7 @@ use Rattle.machine.specs.declared.poll.Polled.the-variants.{Failed, Next
 abbrev pub pollAccess : Poll → Access
 pollAccess Status = Read SR
 pollAccess Sizes = Read PARAM
-pollAccess Counts = Read FSR
+pollAccess (Counts param) = Read FSR
 
 -- the Rust takes PARAM's field for the count of words; the manual makes it an exponent
 abbrev pub depth : ℕ → ℕ
@@ -37,8 +37,8 @@ abbrev pub ready : Direction → ℕ → ℕ → Bool
 ready Tx param counts = ltb (readField (Fsr TXCOUNT) counts) (depth (readField (Param TXFIFO) param))
 ready Rx param counts = ltb 0 (readField (Fsr RXCOUNT) counts)
 
--- what a poll comes to by the answer to its read; `param` is what PARAM answered in it
-abbrev pub polled : Direction → Poll → ℕ → ℕ → Polled
-polled d Status param v = cond (failed d v) Failed (Next Sizes)
-polled d Sizes param v = Next Counts
-polled d Counts param v = cond (ready d param v) Ready Unready
+-- what a poll comes to by the answer to its read
+abbrev pub polled : Direction → Poll → ℕ → Polled
+polled d Status v = cond (failed d v) Failed (Next Sizes)
+polled d Sizes v = Next (Counts v)
+polled d (Counts param) v = cond (ready d param v) Ready Unready

@@ -31,7 +31,7 @@ at p w r = record { phase = p; work = w; reset = r }
 -- FIFO words to send and to receive, none of them done
 abbrev work : ℕ → ℕ → ℕ → Work
 work command send receive =
-    record { command = command; send = send; receive = receive; sent = 0; received = 0; param = 0 }
+    record { command = command; send = send; receive = receive; sent = 0; received = 0 }
 
 abbrev pub startTransfer : Lpspi → ℕ → ℕ → ℕ → Transfer
 startTransfer d command send receive = at (Space Status) (work command send receive) (resetStart (d .cache))
@@ -49,24 +49,30 @@ abbrev pub receiveTurn : Work → Phase
 receiveTurn w =
     cond (ltb (w .received) (w .receive)) (Receiving Status) (cond (ltb (w .sent) (w .send)) (Sending Status) (Ended Ok))
 
+abbrev pub turnOf : Direction → Work → Phase
+turnOf Tx = sendTurn
+turnOf Rx = receiveTurn
+
+-- so many words done
+abbrev pub worked : ℕ → ℕ → Work → Work
+worked sent received w = record { command = w .command; send = w .send; receive = w .receive; sent = sent; received = received }
+
+abbrev pub turnAt : Direction → ℕ → ℕ → Transfer → Transfer
+turnAt side sent received t =
+    let w = worked sent received (t .work) in
+    at (turnOf side w) w (t .reset)
+
 -- one more, up to the limit
 abbrev pub counted : ℕ → ℕ → ℕ
 counted n limit = cond (ltb n limit) (n + 1) n
 
--- PARAM's answer is noted
-abbrev pub noted : Poll → Work → ℕ → Work
-noted Status w v = w
-noted Sizes w v =
-    record { command = w .command; send = w .send; receive = w .receive; sent = w .sent; received = w .received; param = v }
-noted Counts w v = w
-
 abbrev pub oneSent : Work → Work
 oneSent w =
-    record { command = w .command; send = w .send; receive = w .receive; sent = counted (w .sent) (w .send); received = w .received; param = w .param }
+    record { command = w .command; send = w .send; receive = w .receive; sent = counted (w .sent) (w .send); received = w .received }
 
 abbrev pub oneReceived : Work → Work
 oneReceived w =
-    record { command = w .command; send = w .send; receive = w .receive; sent = w .sent; received = counted (w .received) (w .receive); param = w .param }
+    record { command = w .command; send = w .send; receive = w .receive; sent = w .sent; received = counted (w .received) (w .receive) }
 
 -- an error before TCR does no recovery
 abbrev pub spaceBy : Polled → Phase
@@ -88,14 +94,14 @@ receivingBy w (Next p) = Receiving p
 receivingBy w Ready = Receive
 receivingBy w Unready = sendTurn w
 
-abbrev pub afterSpace : Poll → Work → ℕ → Phase
-afterSpace p w v = spaceBy (polled Tx p (w .param) v)
+abbrev pub afterSpace : Poll → ℕ → Phase
+afterSpace p v = spaceBy (polled Tx p v)
 
 abbrev pub afterSending : Poll → Work → ℕ → Phase
-afterSending p w v = sendingBy w (polled Tx p (w .param) v)
+afterSending p w v = sendingBy w (polled Tx p v)
 
 abbrev pub afterReceiving : Poll → Work → ℕ → Phase
-afterReceiving p w v = receivingBy w (polled Rx p (w .param) v)
+afterReceiving p w v = receivingBy w (polled Rx p v)
 
 -- the error is answered once the recovery is done
 abbrev pub afterRecovery : Direction → Reset → Phase
@@ -117,11 +123,11 @@ dueAccess t = dueIn (t .phase) (t .work) (t .reset)
 
 -- THE TRANSFER AFTER IT, which was answered v
 abbrev resumedIn : Phase → Work → Reset → ℕ → Transfer
-resumedIn (Space p) w r v = at (afterSpace p w v) (noted p w v) r
+resumedIn (Space p) w r v = at (afterSpace p v) w r
 resumedIn Command w r v = at (sendTurn w) w r
-resumedIn (Sending p) w r v = at (afterSending p w v) (noted p w v) r
+resumedIn (Sending p) w r v = at (afterSending p w v) w r
 resumedIn Send w r v = at (sendTurn (oneSent w)) (oneSent w) r
-resumedIn (Receiving p) w r v = at (afterReceiving p w v) (noted p w v) r
+resumedIn (Receiving p) w r v = at (afterReceiving p w v) w r
 resumedIn Receive w r v = at (receiveTurn (oneReceived w)) (oneReceived w) r
 resumedIn (Recovery d) w r v = at (afterRecovery d (resetAfter r v)) w (resetAfter r v)
 resumedIn (Ended e) w r v = at (Ended e) w r

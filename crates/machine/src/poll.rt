@@ -9,11 +9,11 @@ use manual::Register;
 use manual::Sr;
 use words::transaction::Direction;
 
-// The read that is due.
+// The read that is due; with the counts, what PARAM answered before them.
 pub enum Poll {
     Status,
     Sizes,
-    Counts,
+    Counts(u32),
 }
 
 // What a poll comes to by an answer.
@@ -30,7 +30,7 @@ pub(crate) fn poll_access(poll: Poll) -> Access
     match poll {
         Poll::Status => Access::Read(Register::SR),
         Poll::Sizes => Access::Read(Register::PARAM),
-        Poll::Counts => Access::Read(Register::FSR),
+        Poll::Counts(_) => Access::Read(Register::FSR),
     }
 }
 
@@ -42,7 +42,7 @@ fn depth(exponent: u32) -> u32
 }
 
 // The direction's error flag is set.
-fn failed(direction: Direction, status: u32) -> bool
+pub fn failed(direction: Direction, status: u32) -> bool
     ensures { λ r. ⌜ r ≡ failed direction status ⌝ }
 {
     match direction {
@@ -52,7 +52,7 @@ fn failed(direction: Direction, status: u32) -> bool
 }
 
 // There is space to transmit, or a word to receive.
-fn ready(direction: Direction, param: u32, counts: u32) -> bool
+pub fn ready(direction: Direction, param: u32, counts: u32) -> bool
     ensures { λ r. ⌜ r ≡ ready direction param counts ⌝ }
 {
     match direction {
@@ -63,8 +63,8 @@ fn ready(direction: Direction, param: u32, counts: u32) -> bool
     }
 }
 
-pub(crate) fn poll_answered(direction: Direction, poll: Poll, param: u32, value: u32) -> Polled
-    ensures { λ r. ⌜ r ≡ polled direction poll param value ⌝ }
+pub(crate) fn poll_answered(direction: Direction, poll: Poll, value: u32) -> Polled
+    ensures { λ r. ⌜ r ≡ polled direction poll value ⌝ }
 {
     match poll {
         Poll::Status => {
@@ -74,8 +74,8 @@ pub(crate) fn poll_answered(direction: Direction, poll: Poll, param: u32, value:
                 Polled::Next(Poll::Sizes)
             }
         }
-        Poll::Sizes => Polled::Next(Poll::Counts),
-        Poll::Counts => {
+        Poll::Sizes => Polled::Next(Poll::Counts(value)),
+        Poll::Counts(param) => {
             if ready(direction, param, value) {
                 Polled::Ready
             } else {

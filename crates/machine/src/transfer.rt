@@ -1,6 +1,6 @@
 // The machine of a transfer.
 ghost use mathlib.Core.Path.{_≡_};
-ghost use Rattle.machine.specs.Transfer.{startTransfer, endedTransfer, sendTurn, receiveTurn, counted, noted, oneSent, oneReceived, afterSpace, afterSending, afterReceiving, afterRecovery, at, dueAccess, resumed};
+ghost use Rattle.machine.specs.Transfer.{startTransfer, endedTransfer, sendTurn, receiveTurn, turnOf, counted, oneSent, oneReceived, afterSpace, afterSending, afterReceiving, afterRecovery, at, turnAt, dueAccess, resumed};
 use crate::access::Access;
 use crate::access::Ending;
 use crate::driver::Lpspi;
@@ -12,6 +12,7 @@ use crate::reset::Reset;
 use manual::Register;
 use words::transaction::Direction;
 use words::transaction::LpspiError;
+use words::transaction::Transaction;
 
 // Where a transfer stands.
 pub enum Phase {
@@ -28,14 +29,13 @@ pub enum Phase {
     Ended(Ending),
 }
 
-// What a transfer works with: TCR's word, the FIFO words to send and to receive and those done, and PARAM as last read.
+// What a transfer works with: TCR's word, the FIFO words to send and to receive, and those done.
 pub struct Work {
     pub command: u32,
     pub send: usize,
     pub receive: usize,
     pub sent: usize,
     pub received: usize,
-    pub param: u32,
 }
 
 pub struct Transfer {
@@ -69,25 +69,19 @@ fn receive_turn(work: Work) -> Phase
     Phase::Ended(Ending::Ok)
 }
 
+fn turn(side: Direction, work: Work) -> Phase
+    ensures { λ r. ⌜ r ≡ turnOf side work ⌝ }
+{
+    match side {
+        Direction::Tx => send_turn(work),
+        Direction::Rx => receive_turn(work),
+    }
+}
+
 fn counted(n: usize, limit: usize) -> usize
     ensures { λ r. ⌜ r ≡ counted n limit ⌝ }
 {
     if n < limit { n + 1 } else { n }
-}
-
-// PARAM is noted when it is read.
-fn noted(poll: Poll, work: Work, value: u32) -> Work
-    ensures { λ r. ⌜ r ≡ noted poll work value ⌝ }
-{
-    let mut w = work;
-    match poll {
-        Poll::Status => w,
-        Poll::Sizes => {
-            w.param = value;
-            w
-        }
-        Poll::Counts => w,
-    }
 }
 
 fn one_sent(work: Work) -> Work
@@ -106,10 +100,10 @@ fn one_received(work: Work) -> Work
     w
 }
 
-fn after_space(poll: Poll, work: Work, value: u32) -> Phase
-    ensures { λ r. ⌜ r ≡ afterSpace poll work value ⌝ }
+fn after_space(poll: Poll, value: u32) -> Phase
+    ensures { λ r. ⌜ r ≡ afterSpace poll value ⌝ }
 {
-    match poll_answered(Direction::Tx, poll, work.param, value) {
+    match poll_answered(Direction::Tx, poll, value) {
         Polled::Failed => Phase::Ended(Ending::Err(LpspiError::Fifo(Direction::Tx))),
         Polled::Next(p) => Phase::Space(p),
         Polled::Ready => Phase::Command,
@@ -120,7 +114,7 @@ fn after_space(poll: Poll, work: Work, value: u32) -> Phase
 fn after_sending(poll: Poll, work: Work, value: u32) -> Phase
     ensures { λ r. ⌜ r ≡ afterSending poll work value ⌝ }
 {
-    match poll_answered(Direction::Tx, poll, work.param, value) {
+    match poll_answered(Direction::Tx, poll, value) {
         Polled::Failed => Phase::Recovery(Direction::Tx),
         Polled::Next(p) => Phase::Sending(p),
         Polled::Ready => Phase::Send,
@@ -131,7 +125,7 @@ fn after_sending(poll: Poll, work: Work, value: u32) -> Phase
 fn after_receiving(poll: Poll, work: Work, value: u32) -> Phase
     ensures { λ r. ⌜ r ≡ afterReceiving poll work value ⌝ }
 {
-    match poll_answered(Direction::Rx, poll, work.param, value) {
+    match poll_answered(Direction::Rx, poll, value) {
         Polled::Failed => Phase::Recovery(Direction::Rx),
         Polled::Next(p) => Phase::Receiving(p),
         Polled::Ready => Phase::Receive,
@@ -150,18 +144,17 @@ fn after_recovery(direction: Direction, reset: Reset) -> Phase
 
 impl Transfer {
     // A transfer with that command of so many FIFO words.
-    pub fn start(driver: Lpspi, command: u32, send: usize, receive: usize) -> Self
-        ensures { λ r. ⌜ r ≡ startTransfer driver command send receive ⌝ }
+    pub fn start(driver: Lpspi, transaction: Transaction, send: usize, receive: usize) -> Self
+        ensures { λ r. ⌜ r ≡ startTransfer driver (transaction .0) send receive ⌝ }
     {
         Transfer {
             phase: Phase::Space(Poll::Status),
             work: Work {
-                command,
+                command: transaction.as_raw(),
                 send,
                 receive,
                 sent: 0,
                 received: 0,
-                param: 0,
             },
             reset: Reset::new(driver.ccr_cache()),
         }
@@ -179,10 +172,20 @@ impl Transfer {
                 receive: 0,
                 sent: 0,
                 received: 0,
-                param: 0,
             },
             reset: Reset::new(driver.ccr_cache()),
         }
+    }
+
+    // The same transfer once its command is out and so many words are done, at the turn of a side.
+    pub fn at_turn(self, side: Direction, sent: usize, received: usize) -> Self
+        ensures { λ r. ⌜ r ≡ turnAt side sent received self ⌝ }
+    {
+        let reset = self.reset;
+        let mut w = self.work;
+        w.sent = sent;
+        w.received = received;
+        moved(turn(side, w), w, reset)
     }
 
     // The access that is due.
@@ -214,18 +217,14 @@ impl Transfer {
         let work = self.work;
         let reset = self.reset;
         match phase {
-            Phase::Space(p) => moved(after_space(p, work, value), noted(p, work, value), reset),
+            Phase::Space(p) => moved(after_space(p, value), work, reset),
             Phase::Command => moved(send_turn(work), work, reset),
-            Phase::Sending(p) => moved(after_sending(p, work, value), noted(p, work, value), reset),
+            Phase::Sending(p) => moved(after_sending(p, work, value), work, reset),
             Phase::Send => {
                 let w = one_sent(work);
                 moved(send_turn(w), w, reset)
             }
-            Phase::Receiving(p) => moved(
-                after_receiving(p, work, value),
-                noted(p, work, value),
-                reset,
-            ),
+            Phase::Receiving(p) => moved(after_receiving(p, work, value), work, reset),
             Phase::Receive => {
                 let w = one_received(work);
                 moved(receive_turn(w), w, reset)

@@ -13,8 +13,8 @@ failed-requires c κs = search needs
 enum-told-2 : tie.Need-enum-told-2
 enum-told-2 c = search needs
 
-enum-told-3 : tie.Need-enum-told-3
-enum-told-3 c = search needs
+enum-known-poll : tie.Need-enum-known-poll
+enum-known-poll c = search needs
 
 ready-requires : tie.Need-ready-requires
 ready-requires c κs = search needs
@@ -29,10 +29,10 @@ returns-3 : tie.Need-returns-3
 returns-3 c = simp (c .enum-told2 .given .1)
 
 returns-4 : tie.Need-returns-4
-returns-4 c = simp (c .before .before .enum-told3 .given .1, ← c .before .ready .ensures, c .if2 .taken)
+returns-4 c = simp (c .before .before .before .poll .given .1, ← c .before .ready .ensures, c .if2 .taken)
 
 returns-5 : tie.Need-returns-5
-returns-5 c = simp (c .before .before .enum-told3 .given .1, ← c .before .ready .ensures, c .if2 .left)
+returns-5 c = simp (c .before .before .before .poll .given .1, ← c .before .ready .ensures, c .if2 .left)
 
 pub poll-answered-spec : {M : Type 1} → statement M
 poll-answered-spec =
@@ -41,7 +41,7 @@ poll-answered-spec =
     enum-told
     failed-requires
     enum-told-2
-    enum-told-3
+    enum-known-poll
     ready-requires
     returns
     returns-2

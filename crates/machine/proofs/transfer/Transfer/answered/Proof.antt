@@ -11,9 +11,6 @@ enum-known-phase c = search needs
 after-space-requires : tie.Need-after-space-requires
 after-space-requires c κs = search needs
 
-noted-requires : tie.Need-noted-requires
-noted-requires c κs = search needs
-
 moved-requires : tie.Need-moved-requires
 moved-requires c κs = search needs
 
@@ -31,9 +28,6 @@ enum-known-phase-2 c = search needs
 
 after-sending-requires : tie.Need-after-sending-requires
 after-sending-requires c κs = search needs
-
-noted-requires-2 : tie.Need-noted-requires-2
-noted-requires-2 c κs = search needs
 
 moved-requires-3 : tie.Need-moved-requires-3
 moved-requires-3 c κs = search needs
@@ -55,9 +49,6 @@ enum-known-phase-3 c = search needs
 
 after-receiving-requires : tie.Need-after-receiving-requires
 after-receiving-requires c κs = search needs
-
-noted-requires-3 : tie.Need-noted-requires-3
-noted-requires-3 c κs = search needs
 
 moved-requires-5 : tie.Need-moved-requires-5
 moved-requires-5 c κs = search needs
@@ -94,7 +85,7 @@ moved-requires-8 c κs = search needs
 
 returns : tie.Need-returns
 unfolding resumed
-returns c = simp (c .before .before .before .before .phase .given .1, c .before .before .after-space .ensures, c .before .noted .ensures, c .moved .ensures)
+returns c = simp (c .before .before .before .phase .given .1, c .before .after-space .ensures, c .moved .ensures)
 
 returns-2 : tie.Need-returns-2
 unfolding resumed
@@ -102,7 +93,7 @@ returns-2 c = simp (c .before .before .enum-told .given .1, c .before .send-turn
 
 returns-3 : tie.Need-returns-3
 unfolding resumed
-returns-3 c = simp (c .before .before .before .before .phase2 .given .1, c .before .before .after-sending .ensures, c .before .noted2 .ensures, c .moved3 .ensures)
+returns-3 c = simp (c .before .before .before .phase2 .given .1, c .before .after-sending .ensures, c .moved3 .ensures)
 
 returns-4 : tie.Need-returns-4
 unfolding resumed
@@ -110,7 +101,7 @@ returns-4 c = simp (c .before .before .before .enum-told2 .given .1, c .before .
 
 returns-5 : tie.Need-returns-5
 unfolding resumed
-returns-5 c = simp (c .before .before .before .before .phase3 .given .1, c .before .before .after-receiving .ensures, c .before .noted3 .ensures, c .moved5 .ensures)
+returns-5 c = simp (c .before .before .before .phase3 .given .1, c .before .after-receiving .ensures, c .moved5 .ensures)
 
 returns-6 : tie.Need-returns-6
 unfolding resumed
@@ -130,14 +121,12 @@ answered-spec =
     (tie.spec
     enum-known-phase
     after-space-requires
-    noted-requires
     moved-requires
     enum-told
     send-turn-requires
     moved-requires-2
     enum-known-phase-2
     after-sending-requires
-    noted-requires-2
     moved-requires-3
     enum-told-2
     one-sent-requires
@@ -145,7 +134,6 @@ answered-spec =
     moved-requires-4
     enum-known-phase-3
     after-receiving-requires
-    noted-requires-3
     moved-requires-5
     enum-told-3
     one-received-requires
