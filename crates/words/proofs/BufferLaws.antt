@@ -110,7 +110,7 @@ length-laid [] bs = refl
 length-laid (x ∷ xs) [] = refl
 length-laid (x ∷ xs) (b ∷ bs) = ap suc (length-laid xs bs)
 
-laid-nothing : (xs : List ℕ) → laid xs [] ≡ []
+pub laid-nothing : (xs : List ℕ) → laid xs [] ≡ []
 laid-nothing [] = refl
 laid-nothing (x ∷ xs) = refl
 
@@ -184,7 +184,7 @@ unpack-nothing o k [] = refl
 unpack-nothing o k (w ∷ ws) = rw (min-zero, zero-sub) (unpack-nothing o k ws)
 
 -- the total that is left after n + 1 words
-left-suc : (k total n : ℕ) → total - perWord k * suc n ≡ total - perWord k - perWord k * n
+pub left-suc : (k total n : ℕ) → total - perWord k * suc n ≡ total - perWord k - perWord k * n
 left-suc k total n = omega (arith, mul-suc (perWord k) n)
 
 -- the first n words, and the others
@@ -196,6 +196,13 @@ unpack-split o k total (suc n) (w ∷ ws) =
     rw (left-suc k total n)
     (ap (λ (l : List ℕ). here ++ l) (unpack-split o k (total - perWord k) n ws)
     ∙ sym (append-assoc here (unpackWords o k (total - perWord k) (take n ws)) (unpackWords o k (total - perWord k - perWord k * n) (drop n ws))))
+
+-- words past the total have no elements
+pub unpack-past : (o : BitOrder) (k total n : ℕ) (ws : List ℕ) → total ≤ perWord k * n → unpackWords o k total (take n ws) ≡ unpackWords o k total ws
+unpack-past o k total n ws h =
+    let front = unpackWords o k total (take n ws) in
+    let none : unpackWords o k (total - perWord k * n) (drop n ws) ≡ [] = rw (sub-eq-zero-of-le h) (unpack-nothing o k (drop n ws)) in
+    sym (unpack-split o k total n ws ∙ ap (λ (x : List ℕ). front ++ x) none ∙ append-nil front)
 
 -- one word more
 unpack-last : (o : BitOrder) (k total i : ℕ) (ws : List ℕ) → i < length ws
@@ -219,7 +226,7 @@ unpack-length o k total (suc n) (w ∷ ws) h l =
 
 -- COUNTS OF WORDS
 
-enough-words : (k total : ℕ) → 0 < perWord k → total ≤ perWord k * wordCount k total
+pub enough-words : (k total : ℕ) → 0 < perWord k → total ≤ perWord k * wordCount k total
 enough-words k total h = omega (arith, lt-div-mul-add {a = total + (perWord k - 1)} {b = perWord k} h, mul-comm (perWord k) (wordCount k total))
 
 no-word-more : (k i n : ℕ) → 0 < perWord k → i < wordCount k n → perWord k * i < n
@@ -301,16 +308,11 @@ unpack-stop o k total n ws bs h s =
     by-order (length ws) n
     (λ l. ap (λ (x : List ℕ). laid (unpackWords o k total x) bs) (take-all n ws l))
     (λ l. by-order total (perWord k * n)
-    (λ t. ap (λ (x : List ℕ). laid x bs) (sym (split ∙ ap (λ (x : List ℕ). front ++ x) (ap (λ (m : ℕ). unpackWords o k m (drop n ws)) (sub-eq-zero-of-le t) ∙ unpack-nothing o k (drop n ws)) ∙ append-nil front)))
+    (λ t. ap (λ (x : List ℕ). laid x bs) (unpack-past o k total n ws t))
     (λ (t : perWord k * n < total).
     let m = s l in
-    sym (ap (λ (x : List ℕ). laid x bs) split ∙ laid-dropped front (unpackWords o k (total - perWord k * n) (drop n ws)) bs (omega (arith, unpack-length o k total n ws h (omega arith))))))
-  where
-    front : List ℕ
-    front = unpackWords o k total (take n ws)
-
-    split : unpackWords o k total ws ≡ front ++ unpackWords o k (total - perWord k * n) (drop n ws)
-    split = unpack-split o k total n ws
+    sym (ap (λ (x : List ℕ). laid x bs) (unpack-split o k total n ws)
+    ∙ laid-dropped (unpackWords o k total (take n ws)) (unpackWords o k (total - perWord k * n) (drop n ws)) bs (omega (arith, unpack-length o k total n ws h (omega arith))))))
 
 -- a whole word of elements that are all there
 filled-whole : (d e n : ℕ) (xs : List ℕ) → n ≤ length xs → filled d n xs ≡ tabulate n (λ (j : ℕ). getD xs j e)
@@ -359,7 +361,7 @@ unpack-32 o (suc total) (w ∷ ws) b =
 
 -- THERE AND BACK
 
-word-suc : (o : BitOrder) (k total i : ℕ) (xs : List ℕ) → wordAt o k total xs (suc i) ≡ wordAt o k (total - perWord k) (drop (perWord k) xs) i
+pub word-suc : (o : BitOrder) (k total i : ℕ) (xs : List ℕ) → wordAt o k total xs (suc i) ≡ wordAt o k (total - perWord k) (drop (perWord k) xs) i
 word-suc o k total i xs =
     let p : perWord k * suc i ≡ perWord k + perWord k * i = omega (arith, mul-suc (perWord k) i) in
     rw (left-suc k total i, p, drop-drop)
@@ -385,7 +387,7 @@ pub unpack-pack-words : (o : BitOrder) (k total : ℕ) (xs : List ℕ) → 0 < p
 unpack-pack-words o k total xs h b = unpack-packed o k (wordCount k total) total xs b (enough-words k total h)
 
 -- the words after the first
-drop-unpacked : (o : BitOrder) (k total w : ℕ) (ws : List ℕ) → drop (perWord k) (unpackWords o k total (w ∷ ws)) ≡ unpackWords o k (total - perWord k) ws
+pub drop-unpacked : (o : BitOrder) (k total w : ℕ) (ws : List ℕ) → drop (perWord k) (unpackWords o k total (w ∷ ws)) ≡ unpackWords o k (total - perWord k) ws
 drop-unpacked o k total w ws =
     by-order (perWord k) total
     (λ (l : perWord k ≤ total). drop-at here later (perWord k) (length-unpack o k (min (perWord k) total) w ∙ omega arith))

@@ -1,5 +1,6 @@
 pub mod WordLaws
 pub mod BufferLaws
+pub mod LaidLaws
 pub mod CommandLaws
 pub mod ClockLaws
 mod Spread

@@ -1,7 +1,7 @@
 -- The FIFO words of a transfer: a write buffer as words, and received words as a read buffer (document 01, Words and transfers). Elements
 -- have k bits each; `total` is the transfer's total length in elements.
 -- Assumes nothing.
-use Prim.Native.Nat.{ℕ, zero, suc, _+_, _-_, _*_, _/_, _^_, min}
+use Prim.Native.Nat.{ℕ, zero, suc, _+_, _-_, _*_, _/_, _%_, _^_, min}
 use mathlib.Core.List.{List, [], _∷_, _++_}
 use lib.ListN.{drop}
 use Rattle.words.specs.declared.order.BitOrder.{BitOrder}
@@ -42,3 +42,7 @@ packWords o k total xs = tabulate (wordCount k total) (wordAt o k total xs)
 abbrev pub unpackWords : BitOrder → ℕ → ℕ → List ℕ → List ℕ
 unpackWords o k total [] = []
 unpackWords o k total (w ∷ ws) = unpack o k (min (perWord k) total) w ++ unpackWords o k (total - perWord k) ws
+
+-- word i with the places above its c elements zero: what was unpacked, packed again
+abbrev pub cutWord : ℕ → ℕ → ℕ → ℕ → ℕ
+cutWord k total i w = w % 2 ^ (k * countAt k total i)

@@ -1,10 +1,11 @@
 // Whole buffers: elements to the FIFO words of a transfer, and received words to elements.
 ghost use mathlib.Core.Path.{_≡_};
-ghost use Prim.Native.Nat.{ℕ, _*_, _≤_, min as least};
+ghost use Prim.Native.Nat.{ℕ, _*_, _-_, _%_, _^_, _<_, _≤_, min as least};
 ghost use mathlib.Core.List.{List};
 ghost use lib.ListN.{length};
+ghost use Rattle.words.specs.Width.{widthBits};
 ghost use Rattle.words.specs.Word.{laid};
-ghost use Rattle.words.specs.Buffer.{wordCount, tabulate, wordAt, packWords, unpackWords};
+ghost use Rattle.words.specs.Buffer.{wordCount, tabulate, wordAt, packWords, unpackWords, cutWord};
 use super::order::BitOrder;
 use super::pack::element_u32;
 use super::pack::full_u8;
@@ -125,5 +126,38 @@ pub fn unpack_words_u32(order: BitOrder, words: &[u32], total: usize, out: &mut 
     let n = min(words.len(), min(total, out.len()));
     for i in 0..n {
         out[i] = words[i];
+    }
+}
+
+// The elements in word `i` of a transfer of `total`, where a word holds `per_word`.
+fn count_at(per_word: usize, total: usize, i: usize) -> usize
+    requires { ⌜ 0 < «per_word» ⌝ }
+    ensures { λ r. ⌜ r ≡ least «per_word» (total - «per_word» * i) ⌝ }
+{
+    if total / per_word < i {
+        return 0;
+    }
+    min(per_word, total - per_word * i)
+}
+
+// The lowest `n` bits of a word.
+fn low(word: u32, n: usize) -> u32
+    requires { ⌜ n ≤ 32 ⌝ }
+    ensures { λ r. ⌜ r ≡ word % 2 ^ n ⌝ }
+{
+    if n == 32 {
+        return word;
+    }
+    word & ((1 << n) - 1)
+}
+
+// Word `i` of a transfer of `total` elements with the places above its elements zero, as unpacking and packing leave it.
+pub fn cut_word(width: Width, total: usize, i: usize, word: u32) -> u32
+    ensures { λ r. ⌜ r ≡ cutWord (widthBits width) total i word ⌝ }
+{
+    match width {
+        Width::U8 => low(word, 8 * count_at(4, total, i)),
+        Width::U16 => low(word, 16 * count_at(2, total, i)),
+        Width::U32 => low(word, 32 * count_at(1, total, i)),
     }
 }
