@@ -3,6 +3,7 @@
 #   rt dev CRATE > target/dev.out; tools/fill.py target/dev.out ANSWERS
 # ANSWERS has a section for each function, begun by a line `== path/of/function` (the folder below proofs/), then
 #   a comment line `-- ..` (the file's first lines), `use ..` lines, and answers `need = text`, whose text may go on in indented lines.
+#   In a text `c↑5` stands for `c` with five `.before`.
 #   A line `* = text` answers every hole that has none; `unfolding a b` before an answer stands under its signature.
 # A section whose function is not offered in the output is passed over. The lines that only shorten printed goals are left out.
 import os
@@ -59,6 +60,7 @@ for name, section in sections.items():
     def answer(m):
         need, args = m.group(1), m.group(2)
         ans = section['ans'].get(need, section['ans'].get('*', '?'))
+        ans = re.sub(r'↑(\d+)', lambda k: ' .before' * int(k.group(1)), ans)
         unf = section['unf'].get(need)
         return (unf + '\n' if unf else '') + need + args + ' =' + ('' if ans.startswith('\n') else ' ') + ans
 

@@ -1,3 +1,9 @@
 pub mod RunLaws
 pub mod RunDepends
+pub mod RunUnlimited
+pub mod Unlimited
+pub mod Places
+pub mod Bill
 mod FlushLaws
+mod DriveLaws
+mod TransferLaws

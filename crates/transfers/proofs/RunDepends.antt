@@ -90,3 +90,24 @@ module _ {M : Type 0} (next : M → Access) (resume : M → ℕ → M) where
           let s′ = step next resume words x s in
           run-agrees n s′ h
           ∙ ap (times (step next resume words y) n) (step-agrees (next (s .machine)) (s .machine) (s .used) (s .log) (s .received) refl (omega (arith, run-used x n s′)))
+
+  -- THE SAME WORDS SENT give the same run
+  module _ (script : List ℕ) (w₁ w₂ : List ℕ → ℕ → ℕ) (same : (rs : List ℕ) (i : ℕ) → w₁ rs i ≡ w₂ rs i) where
+    value-words : (rs : List ℕ) (a : Access) (v : ℕ) → valueOf (w₁ rs) a v ≡ valueOf (w₂ rs) a v
+    value-words rs (Read g) v = refl
+    value-words rs (Write g x) v = refl
+    value-words rs (Send i) v = same rs i
+    value-words rs (Receive i) v = refl
+    value-words rs (Done e) v = refl
+
+    step-words : (s : State M) → step next resume w₁ script s ≡ step next resume w₂ script s
+    unfolding step moved
+    step-words s =
+        let a = next (s .machine) in
+        let v = getD script (s .used) 0 in
+        ap (λ (x : ℕ). cond (halted a (s .used) (length script)) s (record { machine = resume (s .machine) (answerOf a v); used = s .used + usesOf a; log = s .log ++ (record { at = placeOf a; value = x } ∷ []); received = receivedAfter a v (s .received) })) (value-words (s .received) a v)
+
+    pub run-words : (n : ℕ) (s : State M) → run next resume w₁ script n s ≡ run next resume w₂ script n s
+    unfolding times
+    run-words zero s = refl
+    run-words (suc n) s = run-words n (step next resume w₁ script s) ∙ ap (times (step next resume w₂ script) n) (step-words s)

@@ -9,7 +9,7 @@ use Rattle.machine.specs.declared.flush.Flush.{Flush}
 use Rattle.machine.specs.declared.flush.Flush.the-variants.{Status}
 use Rattle.machine.specs.Flush.{flushAccess, flushed}
 use Rattle.transfers.specs.declared.flush.Flushed.{Flushed}
-use Rattle.transfers.specs.Run.{State, Left, left, limits, refused, run, start, endingOf, logOver}
+use Rattle.transfers.specs.Run.{State, Left, left, limits, refused, run, start, endingOf, logOver, ran}
 
 -- a flush sends no word
 abbrev pub noWords : List ℕ → ℕ → ℕ
@@ -34,6 +34,4 @@ flushLoop script budget log =
 -- the call: number 5, or the run; the driver value is as it was
 abbrev pub flushRun : Lpspi → ℕ → List ℕ → List ℕ → Left
 flushRun d budget script log =
-    cond (limits budget log) (refused d log)
-    (let s = flushStates script budget in
-    left (record { ending = endingOf (flushAccess (s .machine)); accesses = length (s .log); answers = s .used; driver = d }) (logOver log (s .log)))
+    cond (limits budget log) (refused d log) (ran flushAccess d log (flushStates script budget))

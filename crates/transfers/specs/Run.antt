@@ -144,6 +144,11 @@ refused d log = left (record { ending = Limits; accesses = 0; answers = 0; drive
 abbrev pub logOver : List ℕ → List Logged → List ℕ
 logOver old l = flat l ++ drop (2 * length l) old
 
+-- a run that came to the state s; the driver value is as it was
+abbrev pub ran : {M : Type 0} → (M → Access) → Lpspi → List ℕ → State M → Left
+ran next d log s =
+    left (record { ending = endingOf (next (s .machine)); accesses = length (s .log); answers = s .used; driver = d }) (logOver log (s .log))
+
 -- the pair of an access, put into a log (private contracts cite it)
 abbrev pub put : List ℕ → ℕ → ℕ → ℕ → List ℕ
 put log made at value = set (set log (2 * made) at) (2 * made + 1) value

@@ -18,7 +18,7 @@ pub(crate) fn limits(budget: usize, log: &[u32]) -> bool
 }
 
 // The pair of an access.
-fn put(log: &mut [u32], made: usize, at: u32, value: u32)
+pub(crate) fn put(log: &mut [u32], made: usize, at: u32, value: u32)
     requires { ⌜ 2 * made + 1 < length (now log) ⌝ }
     ensures { λ _. ⌜ now (log .exit) ≡ put (now (log .entry)) made at value ⌝ }
 {

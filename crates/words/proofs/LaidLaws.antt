@@ -57,14 +57,14 @@ table-at (suc n) f (w ∷ ws) (suc i) h z p = table-at n (λ j. f (suc j)) ws i 
 -- WORD BY WORD
 
 -- the total ends before a word that it does not count
-total-ends : (k total m : ℕ) → 0 < perWord k → wordCount k total ≤ m → total ≤ perWord k * m
+pub total-ends : (k total m : ℕ) → 0 < perWord k → wordCount k total ≤ m → total ≤ perWord k * m
 total-ends k total m h l = omega (arith, enough-words k total h, mul-le-mul-left (perWord k) l)
 
 pub unpack-take : (o : BitOrder) (k total m : ℕ) (rs : List ℕ) → 0 < perWord k → wordCount k total ≤ m
     → unpackWords o k total (take m rs) ≡ unpackWords o k total rs
 unpack-take o k total m rs h l = unpack-past o k total m rs (total-ends k total m h l)
 
-word-past : (o : BitOrder) (k total i : ℕ) (xs : List ℕ) → total ≤ perWord k * i → wordAt o k total xs i ≡ 0
+pub word-past : (o : BitOrder) (k total i : ℕ) (xs : List ℕ) → total ≤ perWord k * i → wordAt o k total xs i ≡ 0
 word-past o k total i xs h =
     let none : countAt k total i ≡ 0 = omega arith in
     ap (λ (c : ℕ). pack o k (filled (dummy k) c (drop (perWord k * i) xs))) none

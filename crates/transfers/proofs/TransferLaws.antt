@@ -1,0 +1,181 @@
+-- The four transfers: from what the code does over FIFO words to the definition over elements. The width k is a parameter.
+-- Assumes nothing.
+use Prim.Native.Nat.{ℕ, zero, suc, _+_, _*_, _-_, _/_, _%_, _^_, _<_, _≤_, min, max}
+use mathlib.Core.Bool.{Bool, true, false, cond}
+use mathlib.Core.List.{List, [], _∷_, _++_}
+use mathlib.Core.Path.{_≡_, refl, sym, ap, ap₂, _∙_}
+use native.Mathlib.Nat.{mul-zero, mod-one, div-lt-iff-lt-mul}
+use native.Mathlib.Omega.{arith}
+use lib.Dec.{ltb, leb, eqb, lit<}
+use lib.ListN.{length, getD, take, replicate, length-take}
+use lib.Seq.{take-all}
+use borrow.Author.Tests.{lt-ltb, le-ltb, ltb-true, ltb-false, leb-true, leb-false, ne-eqb}
+use denote.Ref.{RefT, now}
+use Rattle.manual.specs.declared.Field.the-variants.{Tcr}
+use Rattle.manual.specs.declared.Tcr.the-variants.{FRAMESZ}
+use Rattle.manual.specs.Manual.{setField}
+use Rattle.words.specs.declared.order.BitOrder.{BitOrder}
+use Rattle.words.specs.declared.transaction.LpspiError.the-variants.{FrameSize}
+use Rattle.words.specs.declared.width.Width.{Width}
+use Rattle.words.specs.declared.width.Width.the-variants.{U8, U16, U32}
+use Rattle.words.specs.Word.{perWord, laid}
+use Rattle.words.specs.Buffer.{wordCount, countAt, wordAt, packWords, unpackWords, cutWord}
+use Rattle.words.specs.Command.{frameAccepted, commanded}
+use Rattle.words.specs.Longer.{longer}
+use Rattle.words.specs.Width.{widthBits}
+use Rattle.words.proofs.BufferLaws.{length-laid}
+use Rattle.words.proofs.CommandLaws.{accepted-between}
+use Rattle.words.proofs.LaidLaws.{in-place-word, unpack-take, packed-at, laid-at, take-laid, word-past, total-ends}
+use Rattle.machine.specs.declared.access.Access.{Access}
+use Rattle.machine.specs.declared.access.Access.the-variants.{Done}
+use Rattle.machine.specs.declared.access.Ending.{Ending}
+use Rattle.machine.specs.declared.access.Ending.the-variants.{Ok, Err, Limits}
+use Rattle.machine.specs.declared.driver.Lpspi.{Lpspi}
+use Rattle.machine.specs.declared.transfer.Transfer.{Transfer}
+use Rattle.machine.specs.Driver.{driverCommand}
+use Rattle.machine.specs.Transfer.{startTransfer, endedTransfer, dueAccess, resumed}
+use Rattle.transfers.specs.declared.drive.Frame.{Frame}
+use Rattle.transfers.specs.declared.drive.Driven.{Driven}
+use Rattle.transfers.specs.declared.result.RunResult.{RunResult}
+use Rattle.transfers.specs.Run.{State, start, run, limits, halted, endingOf, logOver, left}
+use Rattle.transfers.specs.Transfers.{Plan, begun, states, transferLeft, transferred, TransferLeft}
+use Rattle.transfers.specs.Drive.{stored, sentFrom, drivenLeft, drivenBy, DrivenLeft, resultOf, states as driveStates}
+use Rattle.transfers.proofs.RunLaws.{run-halted}
+use Rattle.transfers.proofs.RunDepends.{run-words}
+
+-- THE TOTAL LENGTH
+pub longer-length : (r w : RefT (List ℕ)) → length (now (longer r w)) ≡ max (length (now r)) (length (now w))
+unfolding longer
+longer-length r w = by-test (ltb (length (now w)) (length (now r))) refl
+  where
+    by-test : (b : Bool) → ltb (length (now w)) (length (now r)) ≡ b → length (now (cond b r w)) ≡ max (length (now r)) (length (now w))
+    by-test true e = let l = ltb-true (length (now w)) (length (now r)) e in omega arith
+    by-test false e = let l = ltb-false (length (now w)) (length (now r)) e in omega arith
+
+-- an accepted frame has at most 128 FIFO words
+pub accepted-words : (x : Width) (total : ℕ) → frameAccepted (widthBits x * total) ≡ true → wordCount (widthBits x) total ≤ 128
+accepted-words U8 total a = let b = accepted-between (8 * total) a in omega arith
+accepted-words U16 total a = let b = accepted-between (16 * total) a in omega arith
+accepted-words U32 total a = let b = accepted-between (32 * total) a in omega arith
+
+pub holds-one : (x : Width) → 0 < perWord (widthBits x)
+holds-one U8 = lit< tt
+holds-one U16 = lit< tt
+holds-one U32 = lit< tt
+
+module _ (k : ℕ) (d : Lpspi) (p : Plan) (buffer : List ℕ) (budget : ℕ) (script log : List ℕ) where
+  -- NUMBER 5
+  pub left-limits : limits budget log ≡ true → transferLeft (record { ending = Limits; accesses = 0; answers = 0; driver = d }) log buffer ≡ transferred k d p buffer budget script log
+  left-limits e = rw e
+
+  -- NO ACCESS: an empty transfer, and a frame size that is refused
+  unstarted : (e : Ending) → limits budget log ≡ false → begun k d p ≡ endedTransfer d e
+      → transferLeft (record { ending = e; accesses = 0; answers = 0; driver = d }) log buffer ≡ transferred k d p buffer budget script log
+  unfolding dueAccess
+  unstarted e h b =
+      let s : states k d p script budget ≡ start (endedTransfer d e) =
+      ap (λ (t : Transfer). run dueAccess resumed (p .words) script budget (start t)) b ∙ run-halted dueAccess resumed (p .words) script budget (start (endedTransfer d e)) refl in
+      rw (h, s)
+
+  pub left-empty : limits budget log ≡ false → p .total ≡ 0
+      → transferLeft (record { ending = Ok; accesses = 0; answers = 0; driver = d }) log buffer ≡ transferred k d p buffer budget script log
+  left-empty h e = unstarted Ok h (rw e)
+
+  pub left-refused : limits budget log ≡ false → (p .total ≡ 0 → ⊥) → frameAccepted (k * p .total) ≡ false
+      → transferLeft (record { ending = Err FrameSize; accesses = 0; answers = 0; driver = d }) log buffer ≡ transferred k d p buffer budget script log
+  left-refused h n a = unstarted (Err FrameSize) h (rw (ne-eqb (p .total) 0 n, a))
+
+  -- THE RUN, from the length, the order and the counts that the code has
+  module _ (f : Frame) (send olds : List ℕ) (len n m command : ℕ) (o : BitOrder) (et : len ≡ p .total) (en : n ≡ p .send) (em : m ≡ p .receive) (eo : o ≡ d .order)
+      (more : 0 < perWord k) (places : wordCount k len ≤ length olds) (h : limits budget log ≡ false) (some : len ≡ 0 → ⊥) (a : frameAccepted (k * len) ≡ true)
+      (c : command ≡ p .command (driverCommand d (setField (Tcr FRAMESZ) (k * len - 1) 0))) (w : (rs : List ℕ) (i : ℕ) → sentFrom f send olds rs i ≡ p .words rs i) where
+    abbrev coded : State Transfer
+    coded = driveStates f script send olds (startTransfer d command n m) budget
+
+    begins : startTransfer d command n m ≡ begun k d p
+    begins =
+        ap₂ (startTransfer d command) en em
+        ∙ rw (ne-eqb (p .total) 0 (λ (e : p .total ≡ 0). some (et ∙ e)), ap (λ (x : ℕ). frameAccepted (k * x)) (sym et) ∙ a)
+        (ap (λ (x : ℕ). startTransfer d x (p .send) (p .receive)) (c ∙ ap (λ (x : ℕ). p .command (driverCommand d (setField (Tcr FRAMESZ) (k * x - 1) 0))) et))
+
+    same-states : coded ≡ states k d p script budget
+    same-states =
+        run-words dueAccess resumed script (sentFrom f send olds) (p .words) w budget (start (startTransfer d command n m))
+        ∙ ap (λ (t : Transfer). run dueAccess resumed (p .words) script budget (start t)) begins
+
+    -- the stored words give the elements of all words received
+    unpacked : (rs : List ℕ) → unpackWords o k len (take (stored rs olds) (laid rs olds)) ≡ unpackWords (d .order) k (p .total) rs
+    unpacked rs =
+        ap (unpackWords o k len) (take-laid rs olds (stored rs olds) (omega arith) (omega arith))
+        ∙ by-test (leb (length rs) (length olds)) refl
+        ∙ ap₂ (λ (x : BitOrder) (y : ℕ). unpackWords x k y rs) eo et
+      where
+        by-test : (b : Bool) → leb (length rs) (length olds) ≡ b → unpackWords o k len (take (stored rs olds) rs) ≡ unpackWords o k len rs
+        by-test true e = let l = leb-true (length rs) (length olds) e in ap (unpackWords o k len) (take-all (stored rs olds) rs (omega arith))
+        by-test false e = let l = leb-false (length rs) (length olds) e in unpack-take o k len (stored rs olds) rs more (omega arith)
+
+    pub left-run : (r : RunResult) (x : Driven) (log′ words′ buffer′ : List ℕ) → drivenLeft x log′ words′ ≡ drivenBy log olds coded → r ≡ resultOf d x
+        → buffer′ ≡ laid (unpackWords o k len (take (x .spot .received) words′)) buffer → transferLeft r log′ buffer′ ≡ transferred k d p buffer budget script log
+    unfolding drivenBy
+    left-run r x log′ words′ buffer′ e er eb =
+        ap₂ (λ (y : RunResult) (b : List ℕ). transferLeft y log′ b) er eb
+        ∙ ap (λ (y : DrivenLeft). transferLeft (resultOf d (y .driven)) (y .log) (laid (unpackWords o k len (take (y .driven .spot .received) (y .words))) buffer)) e
+        ∙ ap (λ (s : State Transfer). record {
+          call = left (record { ending = endingOf (dueAccess (s .machine)); accesses = length (s .log); answers = s .used; driver = d }) (logOver log (s .log));
+          buffer = laid (unpackWords o k len (take (stored (s .received) olds) (laid (s .received) olds))) buffer;
+        }) same-states
+        ∙ rw (h, unpacked (states k d p script budget .received))
+
+-- the words that are stored have places
+pub stored-fits : (x : Driven) (log′ words′ log olds : List ℕ) (s : State Transfer) → drivenLeft x log′ words′ ≡ drivenBy log olds s → x .spot .received ≤ length words′
+unfolding drivenBy
+stored-fits x log′ words′ log olds s e =
+    let r = ap (λ (y : DrivenLeft). y .driven .spot .received) e in
+    let l = ap (λ (y : DrivenLeft). length (y .words)) e ∙ length-laid (s .received) olds in
+    omega (arith, r, l)
+
+pub length-prefix : (n : ℕ) (ws : List ℕ) → n ≤ length ws → n ≡ length (take n ws)
+length-prefix n ws h = omega (arith, length-take n ws)
+
+-- THE WORDS THAT ARE SENT
+cut-past : (k total i w : ℕ) → total ≤ perWord k * i → cutWord k total i w ≡ 0
+cut-past k total i w h =
+    let none : countAt k total i ≡ 0 = omega arith in
+    ap (λ (c : ℕ). w % 2 ^ (k * c)) none ∙ ap (λ (e : ℕ). w % 2 ^ e) (mul-zero k) ∙ mod-one w
+
+module _ (f : Frame) (o : BitOrder) (total : ℕ) (xs zeros : List ℕ) (blank : (j : ℕ) → getD zeros j 0 ≡ 0)
+    (places : wordCount (widthBits (f .width)) total ≤ length zeros) (send : List ℕ) (es : send ≡ laid (packWords o (widthBits (f .width)) total xs) zeros) where
+  abbrev k : ℕ
+  k = widthBits (f .width)
+
+  packed : (i : ℕ) → getD send i 0 ≡ wordAt o k total xs i
+  packed i = ap (λ (l : List ℕ). getD l i 0) es ∙ packed-at o k total i xs zeros (holds-one (f .width)) blank places
+
+  -- not in place: the words packed at the start
+  pub sent-packed : f .inplace ≡ false → (olds rs : List ℕ) (i : ℕ) → sentFrom f send olds rs i ≡ wordAt o k total xs i
+  sent-packed e olds rs i = rw e (packed i)
+
+  -- in place: over them the words received so far
+  pub sent-in-place : f .inplace ≡ true → f .total ≡ total → length xs ≡ total → (olds rs : List ℕ) (i : ℕ) → length olds ≡ length zeros
+      → sentFrom f send olds rs i ≡ wordAt o k total (laid (unpackWords o k total rs) xs) i
+  sent-in-place e et ex olds rs i eo = rw (e, et) (by-test (ltb i (stored rs olds)) refl) ∙ sym (in-place-word o k total i rs xs ex)
+    where
+      past : (b : Bool) → ltb i (length rs) ≡ b → stored rs olds ≤ i → wordAt o k total xs i ≡ cond b (cutWord k total i (getD rs i 0)) (wordAt o k total xs i)
+      past true t m =
+          let l = ltb-true i (length rs) t in
+          let p = total-ends k total i (holds-one (f .width)) (omega arith) in
+          word-past o k total i xs p ∙ sym (cut-past k total i (getD rs i 0) p)
+      past false t m = refl
+
+      by-test : (b : Bool) → ltb i (stored rs olds) ≡ b
+          → cond b (cutWord k total i (getD (laid rs olds) i 0)) (getD send i 0) ≡ cond (ltb i (length rs)) (cutWord k total i (getD rs i 0)) (wordAt o k total xs i)
+      by-test true t =
+          let l = ltb-true i (stored rs olds) t in
+          rw (lt-ltb i (length rs) (omega arith)) (ap (cutWord k total i) (laid-at rs olds i (omega arith) (omega arith)))
+      by-test false t = let l = ltb-false i (stored rs olds) t in packed i ∙ past (ltb i (length rs)) refl l
+
+-- an array of zeros
+pub blank-at : (n j : ℕ) → _≡_ {A = ℕ} (getD (replicate {A = ℕ} n 0) j 0) 0
+blank-at zero j = refl
+blank-at (suc n) zero = refl
+blank-at (suc n) (suc j) = blank-at n j

@@ -1,0 +1,72 @@
+// `exchange_separate`: transmit one buffer and receive into the other, of any lengths.
+ghost use mathlib.Core.Path.{_≡_};
+ghost use Rattle.transfers.specs.Transfers.{transferLeft, exchangeSeparate};
+use crate::drive::Frame;
+use crate::log::limits;
+use crate::result::RunResult;
+use crate::transfer::Count;
+use crate::transfer::WORDS;
+use crate::transfer::result;
+use crate::transfer::run;
+use crate::transfer::unmoved;
+use machine::access::Ending;
+use machine::driver::Lpspi;
+use words::buffer::pack_words_u8;
+use words::buffer::unpack_words_u8;
+use words::longer::longer_u8;
+use words::transaction::LpspiError;
+use words::transaction::Transaction;
+use words::transaction::TransactionResult;
+use words::width::Width;
+
+pub fn exchange_separate_u8(
+    driver: Lpspi,
+    read: &mut [u8],
+    write: &[u8],
+    budget: usize,
+    script: &[u32],
+    log: &mut [u32],
+) -> RunResult
+    ensures { λ r. ⌜ transferLeft r (now (log .exit)) (now (read .exit)) ≡ exchangeSeparate 8 driver (now (read .entry)) (now (write .entry)) budget (now (script .entry)) (now (log .entry)) ⌝ }
+{
+    if limits(budget, log) {
+        return unmoved(driver, Ending::Limits);
+    }
+    let longer = longer_u8(&read[..], write);
+    let total = longer.len();
+    if total == 0 {
+        return unmoved(driver, Ending::Ok);
+    }
+    let TransactionResult::Ok(transaction) = Transaction::new_u8s(longer) else {
+        return unmoved(driver, Ending::Err(LpspiError::FrameSize));
+    };
+    let order = driver.bit_order();
+    let n = Width::U8.word_count(total);
+    let count = Count {
+        send: n,
+        receive: n,
+    };
+    let frame = Frame {
+        width: Width::U8,
+        total,
+        inplace: false,
+    };
+    let mut send = [0u32; WORDS];
+    let mut words = [0u32; WORDS];
+    pack_words_u8(order, write, total, &mut send);
+    let driven = run(
+        driver,
+        driver.bus_transaction(transaction),
+        count,
+        frame,
+        budget,
+        script,
+        log,
+        &send,
+        &mut words,
+    );
+    let spot = driven.spot;
+    let received = spot.received;
+    unpack_words_u8(order, &words[..received], total, read);
+    result(driver, driven)
+}
