@@ -5,3 +5,4 @@ pub mod Transfers
 pub mod Unlimited
 pub mod Unready
 pub mod Drive
+pub mod Turns

@@ -6,7 +6,7 @@ use machine::access::Ending;
 use manual::Register;
 
 // Added to the offset of a register that is written.
-const WRITE: u32 = 0x1000;
+pub(crate) const WRITE: u32 = 0x1000;
 
 // The first number of its pair in the log.
 pub(crate) fn place_of(access: Access) -> u32

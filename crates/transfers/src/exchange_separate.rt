@@ -4,11 +4,11 @@ ghost use Rattle.transfers.specs.Transfers.{transferLeft, exchangeSepara
 use crate::drive::Frame;
 use crate::log::limits;
 use crate::result::RunResult;
-use crate::transfer::Count;
 use crate::transfer::WORDS;
 use crate::transfer::result;
 use crate::transfer::run;
 use crate::transfer::unmoved;
+use crate::turns::Count;
 use machine::access::Ending;
 use machine::driver::Lpspi;
 use words::buffer::pack_words_u8;

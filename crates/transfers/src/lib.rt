@@ -6,3 +6,4 @@ pub mod flush;
 mod log;
 pub mod result;
 mod transfer;
+mod turns;

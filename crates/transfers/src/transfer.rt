@@ -6,22 +6,20 @@ ghost use Rattle.machine.specs.Transfer.{startTransfer};
 ghost use Rattle.transfers.specs.Drive.{drivenBy, drivenLeft, states, resultOf};
 use crate::drive::Driven;
 use crate::drive::Frame;
-use crate::drive::Spot;
 use crate::drive::drive;
 use crate::result::RunResult;
+use crate::turns::Count;
+use crate::turns::Turns;
+use crate::turns::take_turns;
+use crate::turns::wait_for_space;
 use machine::access::Ending;
 use machine::driver::Lpspi;
 use machine::transfer::Transfer;
+use words::transaction::Direction;
 use words::transaction::Transaction;
 
 // The FIFO words of the longest frame.
 pub(crate) const WORDS: usize = 128;
-
-// The FIFO words that a transfer sends and receives.
-pub(crate) struct Count {
-    pub send: usize,
-    pub receive: usize,
-}
 
 // A transfer from its start.
 pub(crate) fn run(
@@ -40,11 +38,20 @@ pub(crate) fn run(
     ensures { λ r. ⌜ drivenLeft r (now (log .exit)) (now (words .exit)) ≡ drivenBy (now (log .entry)) (now (words .entry)) (states frame (now (script .entry)) (now (send .entry)) (now (words .entry)) (startTransfer driver (transaction .0) (count .send) (count .receive)) budget) ⌝ }
 {
     let transfer = Transfer::start(driver, transaction, count.send, count.receive);
-    let spot = Spot {
-        made: 0,
-        used: 0,
-        received: 0,
-    };
+    let spaced = wait_for_space(transaction.as_raw(), budget, script, log);
+    let spot = spaced.spot;
+    if spaced.commanded {
+        let first = Turns {
+            side: Direction::Tx,
+            sent: 0,
+            spot,
+        };
+        let last = take_turns(first, count, frame, budget, script, log, send, words);
+        let side = last.side;
+        let reached = last.spot;
+        let rest = transfer.at_turn(side, last.sent, reached.received);
+        return drive(rest, reached, frame, budget, script, log, send, words);
+    }
     drive(transfer, spot, frame, budget, script, log, send, words)
 }
 
