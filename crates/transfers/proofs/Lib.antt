@@ -7,3 +7,4 @@ pub mod Bill
 mod FlushLaws
 mod DriveLaws
 mod TransferLaws
+mod EntryLaws
