@@ -6,5 +6,6 @@ pub mod Places
 pub mod Bill
 mod FlushLaws
 mod DriveLaws
-mod TransferLaws
 mod TurnLaws
+mod TransferLaws
+mod EntryLaws

@@ -85,10 +85,10 @@ module _ (k : ℕ) (d : Lpspi) (p : Plan) (buffer : List ℕ) (budget : ℕ) (sc
       → transferLeft (record { ending = Err FrameSize; accesses = 0; answers = 0; driver = d }) log buffer ≡ transferred k d p buffer budget script log
   left-refused h n a = unstarted (Err FrameSize) h (rw (ne-eqb (p .total) 0 n, a))
 
-  -- THE RUN, from the length, the order and the counts that the code has
-  module _ (f : Frame) (send olds : List ℕ) (len n m command : ℕ) (o : BitOrder) (et : len ≡ p .total) (en : n ≡ p .send) (em : m ≡ p .receive) (eo : o ≡ d .order)
-      (more : 0 < perWord k) (places : wordCount k len ≤ length olds) (h : limits budget log ≡ false) (some : len ≡ 0 → ⊥) (a : frameAccepted (k * len) ≡ true)
-      (c : command ≡ p .command (driverCommand d (setField (Tcr FRAMESZ) (k * len - 1) 0))) (w : (rs : List ℕ) (i : ℕ) → sentFrom f send olds rs i ≡ p .words rs i) where
+  -- THE RUN, from the length and the counts that the code has
+  module _ (f : Frame) (send olds : List ℕ) (len n m command : ℕ) (et : len ≡ p .total) (en : n ≡ p .send) (em : m ≡ p .receive) (h : limits budget log ≡ false)
+      (some : len ≡ 0 → ⊥) (a : frameAccepted (k * len) ≡ true) (c : command ≡ p .command (driverCommand d (setField (Tcr FRAMESZ) (k * len - 1) 0)))
+      (w : (rs : List ℕ) (i : ℕ) → sentFrom f send olds rs i ≡ p .words rs i) where
     abbrev coded : State Transfer
     coded = driveStates f script send olds (startTransfer d command n m) budget
 
@@ -103,39 +103,40 @@ module _ (k : ℕ) (d : Lpspi) (p : Plan) (buffer : List ℕ) (budget : ℕ) (sc
         run-words dueAccess resumed script (sentFrom f send olds) (p .words) w budget (start (startTransfer d command n m))
         ∙ ap (λ (t : Transfer). run dueAccess resumed (p .words) script budget (start t)) begins
 
-    -- the stored words give the elements of all words received
-    unpacked : (rs : List ℕ) → unpackWords o k len (take (stored rs olds) (laid rs olds)) ≡ unpackWords (d .order) k (p .total) rs
-    unpacked rs =
-        ap (unpackWords o k len) (take-laid rs olds (stored rs olds) (omega arith) (omega arith))
-        ∙ by-test (leb (length rs) (length olds)) refl
-        ∙ ap₂ (λ (x : BitOrder) (y : ℕ). unpackWords x k y rs) eo et
-      where
-        by-test : (b : Bool) → leb (length rs) (length olds) ≡ b → unpackWords o k len (take (stored rs olds) rs) ≡ unpackWords o k len rs
-        by-test true e = let l = leb-true (length rs) (length olds) e in ap (unpackWords o k len) (take-all (stored rs olds) rs (omega arith))
-        by-test false e = let l = leb-false (length rs) (length olds) e in unpack-take o k len (stored rs olds) rs more (omega arith)
-
-    pub left-run : (r : RunResult) (x : Driven) (log′ words′ buffer′ : List ℕ) → drivenLeft x log′ words′ ≡ drivenBy log olds coded → r ≡ resultOf d x
-        → buffer′ ≡ laid (unpackWords o k len (take (x .spot .received) words′)) buffer → transferLeft r log′ buffer′ ≡ transferred k d p buffer budget script log
+    -- `given` is the buffer as the code makes it of what the run leaves
+    pub left-run : (given : DrivenLeft → List ℕ) → ((s : State Transfer) → given (drivenBy log olds s) ≡ laid (unpackWords (d .order) k (p .total) (s .received)) buffer)
+        → (r : RunResult) (x : Driven) (log′ words′ : List ℕ) → drivenLeft x log′ words′ ≡ drivenBy log olds coded → r ≡ resultOf d x
+        → transferLeft r log′ (given (drivenLeft x log′ words′)) ≡ transferred k d p buffer budget script log
     unfolding drivenBy
-    left-run r x log′ words′ buffer′ e er eb =
-        ap₂ (λ (y : RunResult) (b : List ℕ). transferLeft y log′ b) er eb
-        ∙ ap (λ (y : DrivenLeft). transferLeft (resultOf d (y .driven)) (y .log) (laid (unpackWords o k len (take (y .driven .spot .received) (y .words))) buffer)) e
+    left-run given shown r x log′ words′ e er =
+        ap (λ (y : RunResult). transferLeft y log′ (given (drivenLeft x log′ words′))) er
+        ∙ ap (λ (y : DrivenLeft). transferLeft (resultOf d (y .driven)) (y .log) (given y)) e
         ∙ ap (λ (s : State Transfer). record {
           call = left (record { ending = endingOf (dueAccess (s .machine)); accesses = length (s .log); answers = s .used; driver = d }) (logOver log (s .log));
-          buffer = laid (unpackWords o k len (take (stored (s .received) olds) (laid (s .received) olds))) buffer;
+          buffer = given (drivenBy log olds s);
         }) same-states
-        ∙ rw (h, unpacked (states k d p script budget .received))
+        ∙ rw (h, shown (states k d p script budget))
 
--- the words that are stored have places
-pub stored-fits : (x : Driven) (log′ words′ log olds : List ℕ) (s : State Transfer) → drivenLeft x log′ words′ ≡ drivenBy log olds s → x .spot .received ≤ length words′
-unfolding drivenBy
-stored-fits x log′ words′ log olds s e =
-    let r = ap (λ (y : DrivenLeft). y .driven .spot .received) e in
-    let l = ap (λ (y : DrivenLeft). length (y .words)) e ∙ length-laid (s .received) olds in
-    omega (arith, r, l)
+-- THE WORDS THAT ARE STORED have places, and give the elements of all words received
+module _ {x : Driven} {log′ words′ : List ℕ} (log olds : List ℕ) (s : State Transfer) (e : drivenLeft x log′ words′ ≡ drivenBy log olds s) where
+  pub stored-fits : x .spot .received ≤ length words′
+  unfolding drivenBy
+  stored-fits =
+      let r = ap (λ (y : DrivenLeft). y .driven .spot .received) e in
+      let l = ap (λ (y : DrivenLeft). length (y .words)) e ∙ length-laid (s .received) olds in
+      omega (arith, r, l)
 
-pub length-prefix : (n : ℕ) (ws : List ℕ) → n ≤ length ws → n ≡ length (take n ws)
-length-prefix n ws h = omega (arith, length-take n ws)
+  pub stored-length : x .spot .received ≡ length (take (x .spot .received) words′)
+  stored-length = omega (arith, stored-fits, length-take (x .spot .received) words′)
+
+pub stored-elements : (o : BitOrder) (k total : ℕ) (rs olds : List ℕ) → 0 < perWord k → wordCount k total ≤ length olds
+    → unpackWords o k total (take (stored rs olds) (laid rs olds)) ≡ unpackWords o k total rs
+stored-elements o k total rs olds more places =
+    ap (unpackWords o k total) (take-laid rs olds (stored rs olds) (omega arith) (omega arith)) ∙ by-test (leb (length rs) (length olds)) refl
+  where
+    by-test : (b : Bool) → leb (length rs) (length olds) ≡ b → unpackWords o k total (take (stored rs olds) rs) ≡ unpackWords o k total rs
+    by-test true e = let l = leb-true (length rs) (length olds) e in ap (unpackWords o k total) (take-all (stored rs olds) rs (omega arith))
+    by-test false e = let l = leb-false (length rs) (length olds) e in unpack-take o k total (stored rs olds) rs more (omega arith)
 
 -- THE WORDS THAT ARE SENT
 cut-past : (k total i w : ℕ) → total ≤ perWord k * i → cutWord k total i w ≡ 0

@@ -12,8 +12,14 @@ use crate::turns::Count;
 use machine::access::Ending;
 use machine::driver::Lpspi;
 use words::buffer::pack_words_u8;
+use words::buffer::pack_words_u16;
+use words::buffer::pack_words_u32;
 use words::buffer::unpack_words_u8;
+use words::buffer::unpack_words_u16;
+use words::buffer::unpack_words_u32;
 use words::longer::longer_u8;
+use words::longer::longer_u16;
+use words::longer::longer_u32;
 use words::transaction::LpspiError;
 use words::transaction::Transaction;
 use words::transaction::TransactionResult;
@@ -68,5 +74,109 @@ pub fn exchange_separate_u8(
     let spot = driven.spot;
     let received = spot.received;
     unpack_words_u8(order, &words[..received], total, read);
+    result(driver, driven)
+}
+
+pub fn exchange_separate_u16(
+    driver: Lpspi,
+    read: &mut [u16],
+    write: &[u16],
+    budget: usize,
+    script: &[u32],
+    log: &mut [u32],
+) -> RunResult
+    ensures { λ r. ⌜ transferLeft r (now (log .exit)) (now (read .exit)) ≡ exchangeSeparate 16 driver (now (read .entry)) (now (write .entry)) budget (now (script .entry)) (now (log .entry)) ⌝ }
+{
+    if limits(budget, log) {
+        return unmoved(driver, Ending::Limits);
+    }
+    let longer = longer_u16(&read[..], write);
+    let total = longer.len();
+    if total == 0 {
+        return unmoved(driver, Ending::Ok);
+    }
+    let TransactionResult::Ok(transaction) = Transaction::new_u16s(longer) else {
+        return unmoved(driver, Ending::Err(LpspiError::FrameSize));
+    };
+    let order = driver.bit_order();
+    let n = Width::U16.word_count(total);
+    let count = Count {
+        send: n,
+        receive: n,
+    };
+    let frame = Frame {
+        width: Width::U16,
+        total,
+        inplace: false,
+    };
+    let mut send = [0u32; WORDS];
+    let mut words = [0u32; WORDS];
+    pack_words_u16(order, write, total, &mut send);
+    let driven = run(
+        driver,
+        driver.bus_transaction(transaction),
+        count,
+        frame,
+        budget,
+        script,
+        log,
+        &send,
+        &mut words,
+    );
+    let spot = driven.spot;
+    let received = spot.received;
+    unpack_words_u16(order, &words[..received], total, read);
+    result(driver, driven)
+}
+
+pub fn exchange_separate_u32(
+    driver: Lpspi,
+    read: &mut [u32],
+    write: &[u32],
+    budget: usize,
+    script: &[u32],
+    log: &mut [u32],
+) -> RunResult
+    ensures { λ r. ⌜ transferLeft r (now (log .exit)) (now (read .exit)) ≡ exchangeSeparate 32 driver (now (read .entry)) (now (write .entry)) budget (now (script .entry)) (now (log .entry)) ⌝ }
+{
+    if limits(budget, log) {
+        return unmoved(driver, Ending::Limits);
+    }
+    let longer = longer_u32(&read[..], write);
+    let total = longer.len();
+    if total == 0 {
+        return unmoved(driver, Ending::Ok);
+    }
+    let TransactionResult::Ok(transaction) = Transaction::new_u32s(longer) else {
+        return unmoved(driver, Ending::Err(LpspiError::FrameSize));
+    };
+    let order = driver.bit_order();
+    let n = Width::U32.word_count(total);
+    let count = Count {
+        send: n,
+        receive: n,
+    };
+    let frame = Frame {
+        width: Width::U32,
+        total,
+        inplace: false,
+    };
+    let mut send = [0u32; WORDS];
+    let mut words = [0u32; WORDS];
+    pack_words_u32(order, write, total, &mut send);
+    let driven = run(
+        driver,
+        driver.bus_transaction(transaction),
+        count,
+        frame,
+        budget,
+        script,
+        log,
+        &send,
+        &mut words,
+    );
+    let spot = driven.spot;
+    let received = spot.received;
+    unpack_words_u32(order, &words[..received], total, read);
     result(driver, driven)
 }

@@ -1,0 +1,168 @@
+// `write_no_read`: transmit a buffer and discard what is received.
+ghost use mathlib.Core.List.{[]};
+ghost use mathlib.Core.Path.{_≡_};
+ghost use Rattle.transfers.specs.Transfers.{transferLeft, writeNoRead};
+use crate::drive::Frame;
+use crate::log::limits;
+use crate::result::RunResult;
+use crate::transfer::WORDS;
+use crate::transfer::result;
+use crate::transfer::run;
+use crate::transfer::unmoved;
+use crate::turns::Count;
+use machine::access::Ending;
+use machine::driver::Lpspi;
+use words::buffer::pack_words_u8;
+use words::buffer::pack_words_u16;
+use words::buffer::pack_words_u32;
+use words::transaction::LpspiError;
+use words::transaction::Transaction;
+use words::transaction::TransactionResult;
+use words::width::Width;
+
+pub fn write_no_read_u8(
+    driver: Lpspi,
+    buf: &[u8],
+    budget: usize,
+    script: &[u32],
+    log: &mut [u32],
+) -> RunResult
+    ensures { λ r. ⌜ transferLeft r (now (log .exit)) [] ≡ writeNoRead 8 driver (now (buf .entry)) budget (now (script .entry)) (now (log .entry)) ⌝ }
+{
+    if limits(budget, log) {
+        return unmoved(driver, Ending::Limits);
+    }
+    let total = buf.len();
+    if total == 0 {
+        return unmoved(driver, Ending::Ok);
+    }
+    let TransactionResult::Ok(transaction) = Transaction::new_u8s(buf) else {
+        return unmoved(driver, Ending::Err(LpspiError::FrameSize));
+    };
+    let order = driver.bit_order();
+    let n = Width::U8.word_count(total);
+    let count = Count {
+        send: n,
+        receive: 0,
+    };
+    let frame = Frame {
+        width: Width::U8,
+        total,
+        inplace: false,
+    };
+    let mut send = [0u32; WORDS];
+    let mut words = [0u32; 0];
+    pack_words_u8(order, buf, total, &mut send);
+    let driven = run(
+        driver,
+        driver
+            .bus_transaction(transaction)
+            .with_receive_data_mask(true),
+        count,
+        frame,
+        budget,
+        script,
+        log,
+        &send,
+        &mut words,
+    );
+    result(driver, driven)
+}
+
+pub fn write_no_read_u16(
+    driver: Lpspi,
+    buf: &[u16],
+    budget: usize,
+    script: &[u32],
+    log: &mut [u32],
+) -> RunResult
+    ensures { λ r. ⌜ transferLeft r (now (log .exit)) [] ≡ writeNoRead 16 driver (now (buf .entry)) budget (now (script .entry)) (now (log .entry)) ⌝ }
+{
+    if limits(budget, log) {
+        return unmoved(driver, Ending::Limits);
+    }
+    let total = buf.len();
+    if total == 0 {
+        return unmoved(driver, Ending::Ok);
+    }
+    let TransactionResult::Ok(transaction) = Transaction::new_u16s(buf) else {
+        return unmoved(driver, Ending::Err(LpspiError::FrameSize));
+    };
+    let order = driver.bit_order();
+    let n = Width::U16.word_count(total);
+    let count = Count {
+        send: n,
+        receive: 0,
+    };
+    let frame = Frame {
+        width: Width::U16,
+        total,
+        inplace: false,
+    };
+    let mut send = [0u32; WORDS];
+    let mut words = [0u32; 0];
+    pack_words_u16(order, buf, total, &mut send);
+    let driven = run(
+        driver,
+        driver
+            .bus_transaction(transaction)
+            .with_receive_data_mask(true),
+        count,
+        frame,
+        budget,
+        script,
+        log,
+        &send,
+        &mut words,
+    );
+    result(driver, driven)
+}
+
+pub fn write_no_read_u32(
+    driver: Lpspi,
+    buf: &[u32],
+    budget: usize,
+    script: &[u32],
+    log: &mut [u32],
+) -> RunResult
+    ensures { λ r. ⌜ transferLeft r (now (log .exit)) [] ≡ writeNoRead 32 driver (now (buf .entry)) budget (now (script .entry)) (now (log .entry)) ⌝ }
+{
+    if limits(budget, log) {
+        return unmoved(driver, Ending::Limits);
+    }
+    let total = buf.len();
+    if total == 0 {
+        return unmoved(driver, Ending::Ok);
+    }
+    let TransactionResult::Ok(transaction) = Transaction::new_u32s(buf) else {
+        return unmoved(driver, Ending::Err(LpspiError::FrameSize));
+    };
+    let order = driver.bit_order();
+    let n = Width::U32.word_count(total);
+    let count = Count {
+        send: n,
+        receive: 0,
+    };
+    let frame = Frame {
+        width: Width::U32,
+        total,
+        inplace: false,
+    };
+    let mut send = [0u32; WORDS];
+    let mut words = [0u32; 0];
+    pack_words_u32(order, buf, total, &mut send);
+    let driven = run(
+        driver,
+        driver
+            .bus_transaction(transaction)
+            .with_receive_data_mask(true),
+        count,
+        frame,
+        budget,
+        script,
+        log,
+        &send,
+        &mut words,
+    );
+    result(driver, driven)
+}
