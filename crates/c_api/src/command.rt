@@ -1,7 +1,7 @@
 // The word of the register TCR.
 ghost use mathlib.Core.Path.{_≡_};
 ghost use Rattle.words.specs.Command.{commanded, settingsWord};
-ghost use Rattle.c_api.specs.Host.{orderFrom, polarityFrom, phaseFrom, pcsFrom, settingsFrom, answered, kept};
+ghost use Rattle.c_api.specs.Host.{orderFrom, polarityFrom, phaseFrom, modeFrom, pcsFrom, settingsFrom, answered, kept};
 use words::mode::Mode;
 use words::mode::Pcs;
 use words::mode::Phase;
@@ -36,7 +36,15 @@ fn phase_of(mode: u32) -> Phase
     }
 }
 
-fn pcs_of(pcs: u32) -> Pcs
+pub(crate) fn mode_of(mode: u32) -> Mode
+    ensures { λ r. ⌜ r ≡ modeFrom mode ⌝ }
+{
+    let polarity = polarity_of(mode);
+    let phase = phase_of(mode);
+    Mode { polarity, phase }
+}
+
+pub(crate) fn pcs_of(pcs: u32) -> Pcs
     ensures { λ r. ⌜ r ≡ pcsFrom pcs ⌝ }
 {
     let select = pcs % 4;
@@ -73,11 +81,9 @@ pub extern "C" fn lpspi_command(
     let TransactionResult::Ok(command) = Transaction::new(frame_size as u16) else {
         return 1;
     };
-    let polarity = polarity_of(mode);
-    let phase = phase_of(mode);
     *word = command
         .with_bit_order(order_of(lsb))
-        .with_mode(Mode { polarity, phase })
+        .with_mode(mode_of(mode))
         .with_pcs(pcs_of(pcs))
         .with_byte_swap(byte_swap)
         .with_receive_data_mask(receive_mask)

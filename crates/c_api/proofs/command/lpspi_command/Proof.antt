@@ -4,9 +4,6 @@ use Prim.Native.Nat.{ℕ}
 use mathlib.Core.Bool.{Bool, cond}
 use mathlib.Core.Path.{_≡_, ap, ap₂, sym, _∙_}
 use Rattle.manual.specs.declared.Tcr.the-variants.{BYSW, RXMSK, TXMSK, CONT, CONTC}
-use Rattle.words.specs.declared.mode.Mode.{Mode}
-use Rattle.words.specs.declared.mode.Phase.{Phase}
-use Rattle.words.specs.declared.mode.Polarity.{Polarity}
 use Rattle.words.specs.declared.order.BitOrder.{BitOrder}
 use Rattle.words.specs.Command.{commandAnswer, commanded, setFlag, setOrder, setMode, setPcs, settingsWord}
 use Rattle.c_api.specs.Host.{settingsFrom, kept, answered}
@@ -14,9 +11,6 @@ use Rattle.words.proofs.CommandLaws.{accepted-word, refused-size, refused-long}
 use borrow.Author.Needs.{needs}
 use Rattle.c_api.proofs.command.lpspi_command.Statement.{statement}
 use Rattle.c_api.proofs.command.lpspi_command.Tie as tie
-
-moded : Polarity → Phase → Mode
-moded x y = record { polarity = x; phase = y }
 
 cast-if1 : tie.Need-cast-if1
 cast-if1 c = search needs
@@ -42,17 +36,14 @@ returns-2 c =
     let no = refused-size (a .frame-size) (c .enum-told .given .0 .0) (ap commandAnswer (sym (c .enum-told .given .1)) ∙ c .before .before .new .ensures) in
     rw no
 
-polarity-of-requires : tie.Need-polarity-of-requires
-polarity-of-requires c κs = search needs
-
-phase-of-requires : tie.Need-phase-of-requires
-phase-of-requires c κs = search needs
-
 order-of-requires : tie.Need-order-of-requires
 order-of-requires c κs = search needs
 
 with-bit-order-requires : tie.Need-with-bit-order-requires
 with-bit-order-requires c κs = search needs
+
+mode-of-requires : tie.Need-mode-of-requires
+mode-of-requires c κs = search needs
 
 with-mode-requires : tie.Need-with-mode-requires
 with-mode-requires c κs = search needs
@@ -82,14 +73,13 @@ as-raw-requires : tie.Need-as-raw-requires
 as-raw-requires c κs = search needs
 
 returns-3 : tie.Need-returns-3
-unfolding moded
 returns-3 c =
-    let p = c .before .before .before .before .before .before .before .before .before in
-    let s = p .before .before .before .before .before in
+    let p = c .before .before .before .before .before .before .before .before .before .before in
+    let s = p .before .before .before in
     let a = s .before .before .before .before .args in
     let yes = accepted-word (a .frame-size) _ (ap commandAnswer (sym (s .command .given .1)) ∙ s .before .before .new .ensures) in
     let order = p .with-bit-order .ensures ∙ ap₂ setOrder (p .before .order-of .ensures) (yes .1) in
-    let mode = c .before .before .before .before .before .before .before .before .with-mode .ensures ∙ ap₂ setMode (ap₂ moded (p .before .before .before .polarity-of .ensures) (p .before .before .phase-of .ensures)) order in
+    let mode = c .before .before .before .before .before .before .before .before .with-mode .ensures ∙ ap₂ setMode (c .before .before .before .before .before .before .before .before .before .mode-of .ensures) order in
     let pcs = c .before .before .before .before .before .before .with-pcs .ensures ∙ ap₂ setPcs (c .before .before .before .before .before .before .before .pcs-of .ensures) mode in
     let swap = c .before .before .before .before .before .with-byte-swap .ensures ∙ ap (setFlag BYSW (a .byte-swap)) pcs in
     let receive = c .before .before .before .before .with-receive-data-mask .ensures ∙ ap (setFlag RXMSK (a .receive-mask)) swap in
@@ -109,10 +99,9 @@ lpspi-command-spec =
     enum-known-command
     enum-told
     returns-2
-    polarity-of-requires
-    phase-of-requires
     order-of-requires
     with-bit-order-requires
+    mode-of-requires
     with-mode-requires
     pcs-of-requires
     with-pcs-requires
