@@ -6,6 +6,7 @@ use mathlib.Core.List.{List, []}
 use mathlib.Core.Path.{_≡_, refl, sym, ap, ap₂, _∙_}
 use native.Mathlib.Omega.{arith}
 use lib.ListN.{length, take, replicate}
+use borrow.Author.Tests.{ne-eqb}
 use denote.Ref.{RefT, now}
 use Rattle.manual.specs.declared.Tcr.the-variants.{RXMSK, TXMSK}
 use Rattle.words.specs.declared.order.BitOrder.{BitOrder}
@@ -35,26 +36,29 @@ use Rattle.transfers.specs.Run.{State, limits}
 use Rattle.transfers.specs.Transfers.{Plan, transferLeft, transferred, exchangeSeparate, exchange, writeNoRead, readNoWrite, separatePlan, inPlacePlan, writePlan, readPlan}
 use Rattle.transfers.specs.Drive.{sentFrom, drivenLeft, drivenBy, DrivenLeft, resultOf, states}
 use Rattle.transfers.proofs.FlushLaws.{room}
-use Rattle.transfers.proofs.TransferLaws.{longer-length, left-limits, left-empty, left-refused, left-run, stored-elements, sent-packed, sent-in-place, accepted-words, holds-one, blank-at}
+use Rattle.transfers.proofs.TransferLaws.{longer-length, left-unstarted, left-run, stored-elements, sent-packed, sent-in-place, accepted-words, holds-one, blank-at}
 
--- NO ACCESS: number 5, an empty transfer, and a frame size that is refused
+-- NO ACCESS: `full` answers number 5, `len` is the total length that the code has
 abbrev still : Lpspi → Ending → RunResult
 still d e = record { ending = e; accesses = 0; answers = 0; driver = d }
 
 module _ (x : Width) (d : Lpspi) (p : Plan) (buffer : List ℕ) (budget : ℕ) (script log : List ℕ) {full : Bool} {r : RunResult} (ef : full ≡ limits budget log) where
+  -- number 5
   pub ends-limits : full ≡ true → r ≡ still d Limits → transferLeft r log buffer ≡ transferred (widthBits x) d p buffer budget script log
-  ends-limits e er = ap (λ (y : RunResult). transferLeft y log buffer) er ∙ left-limits (widthBits x) d p buffer budget script log (sym ef ∙ e)
+  ends-limits e er = rw (er, sym ef ∙ e)
 
   module _ (len : ℕ) (e : full ≡ false) (et : len ≡ p .total) where
+    -- an empty transfer
     pub ends-empty : len ≡ 0 → r ≡ still d Ok → transferLeft r log buffer ≡ transferred (widthBits x) d p buffer budget script log
-    ends-empty z er = ap (λ (y : RunResult). transferLeft y log buffer) er ∙ left-empty (widthBits x) d p buffer budget script log (sym ef ∙ e) (sym et ∙ z)
+    ends-empty z er = rw er (left-unstarted (widthBits x) d p buffer budget script log Ok (sym ef ∙ e) (rw (sym et ∙ z)))
 
+    -- a frame size that is refused
     pub ends-refused : (len ≡ 0 → ⊥) → {t : TransactionResult} (u : LpspiError) → t ≡ Refused u → commandAnswer t ≡ framed (widthBits x * len) → r ≡ still d (Err FrameSize)
         → transferLeft r log buffer ≡ transferred (widthBits x) d p buffer budget script log
     ends-refused some u eu ec er =
-        ap (λ (y : RunResult). transferLeft y log buffer) er
-        ∙ left-refused (widthBits x) d p buffer budget script log (sym ef ∙ e) (λ (z : p .total ≡ 0). some (et ∙ z))
-        (ap (λ (n : ℕ). frameAccepted (widthBits x * n)) (sym et) ∙ refused-size (widthBits x * len) u (ap commandAnswer (sym eu) ∙ ec))
+        let a = ap (λ (n : ℕ). frameAccepted (widthBits x * n)) (sym et) ∙ refused-size (widthBits x * len) u (ap commandAnswer (sym eu) ∙ ec) in
+        rw er
+        (left-unstarted (widthBits x) d p buffer budget script log (Err FrameSize) (sym ef ∙ e) (rw (ne-eqb (p .total) 0 (λ (z : p .total ≡ 0). some (et ∙ z)), a)))
 
 -- the total length of two buffers
 pub longer-total : {r : RefT (List ℕ)} (a b : RefT (List ℕ)) → r ≡ longer a b → length (now r) ≡ max (length (now a)) (length (now b))
@@ -66,7 +70,7 @@ longer-total a b e = ap (λ (y : RefT (List ℕ)). length (now y)) e ∙ longer-
 pub roomy : (budget : ℕ) (log : List ℕ) {full : Bool} → full ≡ limits budget log → full ≡ false → 2 * budget ≤ length log
 roomy budget log ef e = room budget log (sym ef ∙ e)
 
--- there is a transaction
+-- there is a transaction u for `len` elements
 module _ (x : Width) (len : ℕ) {t : TransactionResult} (u : Transaction) (eu : t ≡ Made u) (ec : commandAnswer t ≡ framed (widthBits x * len)) where
   made-frame : frameAccepted (widthBits x * len) ≡ true
   made-frame = accepted-word (widthBits x * len) u (ap commandAnswer (sym eu) ∙ ec) .0
@@ -75,6 +79,7 @@ module _ (x : Width) (len : ℕ) {t : TransactionResult} (u : Transaction) (eu :
   pub made-places : {n : ℕ} → n ≡ wordCount (widthBits x) len → n ≤ 128
   made-places en = omega (arith, en, accepted-words x len made-frame)
 
+  -- o and n are the order and the count of words that the code has
   module _ (d : Lpspi) (budget : ℕ) (script log : List ℕ) {full : Bool} {o : BitOrder} {n : ℕ} (ef : full ≡ limits budget log) (e : full ≡ false) (some : len ≡ 0 → ⊥)
       (eo : o ≡ d .order) (en : n ≡ wordCount (widthBits x) len) where
     abbrev k : ℕ
@@ -87,8 +92,9 @@ module _ (x : Width) (len : ℕ) {t : TransactionResult} (u : Transaction) (eu :
     frame b = record { width = x; total = len; inplace = b }
 
     fits : wordCount k len ≤ 128
-    fits = accepted-words x len made-frame
+    fits = made-places refl
 
+    -- a run by a plan, to the result r and what `run` leaves
     module _ (p : Plan) (buffer : List ℕ) (b : Bool) (send olds : List ℕ) (sends receives command : ℕ) (et : len ≡ p .total) (es : sends ≡ p .send) (er : receives ≡ p .receive)
         (c : command ≡ p .command (driverCommand d (u .0))) (w : (rs : List ℕ) (i : ℕ) → sentFrom (frame b) send olds rs i ≡ p .words rs i) (r : RunResult) (y : Driven)
         (log′ words′ : List ℕ) (ey : drivenLeft y log′ words′ ≡ drivenBy log olds (states (frame b) script send olds (startTransfer d command sends receives) budget))
@@ -113,6 +119,7 @@ module _ (x : Width) (len : ℕ) {t : TransactionResult} (u : Transaction) (eu :
               ap (λ (l : List ℕ). laid l buffer)
               (stored-elements o k len (s .received) olds (holds-one x) places ∙ ap₂ (λ (z : BitOrder) (n : ℕ). unpackWords z k n (s .received)) eo et)
 
+    -- THE FOUR TRANSFERS: `send` holds the words packed at the start
     module _ {y : Driven} {log′ words′ : List ℕ} {command : ℕ} {r : RunResult} (ed : r ≡ resultOf d y) where
       pub separate-left : (read write : List ℕ) → len ≡ max (length read) (length write) → (send : List ℕ) {read′ : List ℕ} → send ≡ laid (packWords o k len write) zeros
           → command ≡ driverCommand d (u .0)

@@ -1,35 +1,31 @@
 -- The four transfers: from what the code does over FIFO words to the definition over elements. The width k is a parameter.
 -- Assumes nothing.
-use Prim.Native.Nat.{ℕ, zero, suc, _+_, _*_, _-_, _/_, _%_, _^_, _<_, _≤_, min, max}
+use Prim.Native.Nat.{ℕ, zero, suc, _*_, _-_, _%_, _^_, _<_, _≤_, max}
 use mathlib.Core.Bool.{Bool, true, false, cond}
-use mathlib.Core.List.{List, [], _∷_, _++_}
+use mathlib.Core.List.{List}
 use mathlib.Core.Path.{_≡_, refl, sym, ap, ap₂, _∙_}
-use native.Mathlib.Nat.{mul-zero, mod-one, div-lt-iff-lt-mul}
+use native.Mathlib.Nat.{mul-zero, mod-one}
 use native.Mathlib.Omega.{arith}
-use lib.Dec.{ltb, leb, eqb, lit<}
+use lib.Dec.{ltb, leb, lit<}
 use lib.ListN.{length, getD, take, replicate, length-take}
 use lib.Seq.{take-all}
-use borrow.Author.Tests.{lt-ltb, le-ltb, ltb-true, ltb-false, leb-true, leb-false, ne-eqb}
+use borrow.Author.Tests.{lt-ltb, ltb-true, ltb-false, leb-true, leb-false, ne-eqb}
 use denote.Ref.{RefT, now}
 use Rattle.manual.specs.declared.Field.the-variants.{Tcr}
 use Rattle.manual.specs.declared.Tcr.the-variants.{FRAMESZ}
 use Rattle.manual.specs.Manual.{setField}
 use Rattle.words.specs.declared.order.BitOrder.{BitOrder}
-use Rattle.words.specs.declared.transaction.LpspiError.the-variants.{FrameSize}
 use Rattle.words.specs.declared.width.Width.{Width}
 use Rattle.words.specs.declared.width.Width.the-variants.{U8, U16, U32}
 use Rattle.words.specs.Word.{perWord, laid}
 use Rattle.words.specs.Buffer.{wordCount, countAt, wordAt, packWords, unpackWords, cutWord}
-use Rattle.words.specs.Command.{frameAccepted, commanded}
+use Rattle.words.specs.Command.{frameAccepted}
 use Rattle.words.specs.Longer.{longer}
 use Rattle.words.specs.Width.{widthBits}
 use Rattle.words.proofs.BufferLaws.{length-laid}
 use Rattle.words.proofs.CommandLaws.{accepted-between}
 use Rattle.words.proofs.LaidLaws.{in-place-word, unpack-take, packed-at, laid-at, take-laid, word-past, total-ends}
-use Rattle.machine.specs.declared.access.Access.{Access}
-use Rattle.machine.specs.declared.access.Access.the-variants.{Done}
 use Rattle.machine.specs.declared.access.Ending.{Ending}
-use Rattle.machine.specs.declared.access.Ending.the-variants.{Ok, Err, Limits}
 use Rattle.machine.specs.declared.driver.Lpspi.{Lpspi}
 use Rattle.machine.specs.declared.transfer.Transfer.{Transfer}
 use Rattle.machine.specs.Driver.{driverCommand}
@@ -37,8 +33,8 @@ use Rattle.machine.specs.Transfer.{startTransfer, endedTransfer, dueAccess, res
 use Rattle.transfers.specs.declared.drive.Frame.{Frame}
 use Rattle.transfers.specs.declared.drive.Driven.{Driven}
 use Rattle.transfers.specs.declared.result.RunResult.{RunResult}
-use Rattle.transfers.specs.Run.{State, start, run, limits, halted, endingOf, logOver, left}
-use Rattle.transfers.specs.Transfers.{Plan, begun, states, transferLeft, transferred, TransferLeft}
+use Rattle.transfers.specs.Run.{State, start, run, limits, endingOf, logOver, left}
+use Rattle.transfers.specs.Transfers.{Plan, begun, states, transferLeft, transferred}
 use Rattle.transfers.specs.Drive.{stored, sentFrom, drivenLeft, drivenBy, DrivenLeft, resultOf, states as driveStates}
 use Rattle.transfers.proofs.RunLaws.{run-halted}
 use Rattle.transfers.proofs.RunDepends.{run-words}
@@ -64,26 +60,14 @@ holds-one U16 = lit< tt
 holds-one U32 = lit< tt
 
 module _ (k : ℕ) (d : Lpspi) (p : Plan) (buffer : List ℕ) (budget : ℕ) (script log : List ℕ) where
-  -- NUMBER 5
-  pub left-limits : limits budget log ≡ true → transferLeft (record { ending = Limits; accesses = 0; answers = 0; driver = d }) log buffer ≡ transferred k d p buffer budget script log
-  left-limits e = rw e
-
-  -- NO ACCESS: an empty transfer, and a frame size that is refused
-  unstarted : (e : Ending) → limits budget log ≡ false → begun k d p ≡ endedTransfer d e
+  -- NO ACCESS: the transfer has ended where it begins
+  pub left-unstarted : (e : Ending) → limits budget log ≡ false → begun k d p ≡ endedTransfer d e
       → transferLeft (record { ending = e; accesses = 0; answers = 0; driver = d }) log buffer ≡ transferred k d p buffer budget script log
   unfolding dueAccess
-  unstarted e h b =
+  left-unstarted e h b =
       let s : states k d p script budget ≡ start (endedTransfer d e) =
       ap (λ (t : Transfer). run dueAccess resumed (p .words) script budget (start t)) b ∙ run-halted dueAccess resumed (p .words) script budget (start (endedTransfer d e)) refl in
       rw (h, s)
-
-  pub left-empty : limits budget log ≡ false → p .total ≡ 0
-      → transferLeft (record { ending = Ok; accesses = 0; answers = 0; driver = d }) log buffer ≡ transferred k d p buffer budget script log
-  left-empty h e = unstarted Ok h (rw e)
-
-  pub left-refused : limits budget log ≡ false → (p .total ≡ 0 → ⊥) → frameAccepted (k * p .total) ≡ false
-      → transferLeft (record { ending = Err FrameSize; accesses = 0; answers = 0; driver = d }) log buffer ≡ transferred k d p buffer budget script log
-  left-refused h n a = unstarted (Err FrameSize) h (rw (ne-eqb (p .total) 0 n, a))
 
   -- THE RUN, from the length and the counts that the code has
   module _ (f : Frame) (send olds : List ℕ) (len n m command : ℕ) (et : len ≡ p .total) (en : n ≡ p .send) (em : m ≡ p .receive) (h : limits budget log ≡ false)
