@@ -1,10 +1,8 @@
-// Computes the examples of document 01 and prints them: words, commands, clocks, what is refused, and a flush.
+// Computes the examples of document 01 and prints them: words, commands, clocks, and what is refused.
 use libc::STDOUT_FILENO;
-use machine::driver::Lpspi;
 use manual::Field;
 use manual::Register;
 use manual::Tcr;
-use transfers::flush::flush;
 use words::buffer::pack_words_u8;
 use words::buffer::pack_words_u16;
 use words::buffer::pack_words_u32;
@@ -286,29 +284,6 @@ fn clock(source: u32, wanted: u32) {
     text(b" Hz\n");
 }
 
-// A flush that is busy once and then finds the FIFO empty: number, accesses, answers, and the log.
-fn show_flush() {
-    let script = [0x0100_0000u32, 0, 0x404, 0];
-    let mut log = [0u32; 10];
-    let result = flush(Lpspi::new(), 5, &script, &mut log);
-    let ending = result.ending;
-    text(b"flush, busy once:");
-    number(ending.number() as u64);
-    number(result.accesses as u64);
-    number(result.answers as u64);
-    text(b";");
-    word(log[0]);
-    word(log[1]);
-    word(log[2]);
-    word(log[3]);
-    word(log[4]);
-    word(log[5]);
-    word(log[6]);
-    word(log[7]);
-    word(log[8]);
-    text(b"\n");
-}
-
 fn main() {
     show_words();
     show_short_words();
@@ -324,5 +299,4 @@ fn main() {
     clock(60_000_000, 4_000_000);
     clock(60_000_000, 100_000);
     clock(60_000_000, 0);
-    show_flush();
 }

@@ -66,10 +66,14 @@ fn result(r: RunResult) {
     text(b"\n");
 }
 
+fn byte(b: u8) {
+    two_digits(b as u32);
+    text(b"\n");
+}
+
 fn bytes(read: &[u8]) {
     for i in 0..read.len() {
-        two_digits(read[i] as u32);
-        text(b"\n");
+        byte(read[i]);
     }
 }
 
@@ -186,15 +190,15 @@ fn show_halves() {
     let driver = Lpspi::new().with_bit_order(BitOrder::Lsb);
     let r = exchange_separate_u16(driver, &mut read, &[0x1122u16], 40, &script, &mut log);
     accesses(&log, r.accesses);
-    halves(&read);
+    half(read[0]);
+    half(read[1]);
+    half(read[2]);
     result(r);
 }
 
-fn halves(read: &[u16]) {
-    for i in 0..read.len() {
-        four_digits(read[i] as u32);
-        text(b"\n");
-    }
+fn half(h: u16) {
+    four_digits(h as u32);
+    text(b"\n");
 }
 
 fn show_one_way() {
@@ -218,18 +222,20 @@ fn show_one_way() {
 fn show_refusals() {
     let script = [0u32; 1];
     let mut log = [0u32; 40];
-    let mut read = [0u8; 513];
+    let mut long = [0u8; 513];
+    let mut none = [0u8; 0];
+    let mut one = [0u8; 1];
     text(b"budget of 8001\n");
-    result(exchange_u8(Lpspi::new(), &mut read, 8001, &script, &mut log));
+    result(exchange_u8(Lpspi::new(), &mut long, 8001, &script, &mut log));
     text(b"log of 40 for a budget of 21\n");
-    result(exchange_u8(Lpspi::new(), &mut read, 21, &script, &mut log));
+    result(exchange_u8(Lpspi::new(), &mut long, 21, &script, &mut log));
     text(b"513 bytes\n");
-    result(exchange_u8(Lpspi::new(), &mut read, 20, &script, &mut log));
+    result(exchange_u8(Lpspi::new(), &mut long, 20, &script, &mut log));
     text(b"no bytes\n");
-    result(exchange_u8(Lpspi::new(), &mut read[..0], 20, &script, &mut log));
+    result(exchange_u8(Lpspi::new(), &mut none, 20, &script, &mut log));
     text(b"a transmit error before the command\n");
     let script = [0x800u32];
-    let r = exchange_u8(Lpspi::new(), &mut read[..1], 20, &script, &mut log);
+    let r = exchange_u8(Lpspi::new(), &mut one, 20, &script, &mut log);
     accesses(&log, r.accesses);
     result(r);
 }
