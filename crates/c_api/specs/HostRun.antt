@@ -2,7 +2,7 @@
 -- Assumes nothing.
 use Prim.Native.Nat.{ℕ}
 use mathlib.Core.List.{List, []}
-use Rattle.transfers.specs.Run.{Left}
+use Rattle.runs.specs.Run.{Left}
 use Rattle.transfers.specs.Transfers.{TransferLeft}
 
 pub record HostLeft : Type 0 where

@@ -2,7 +2,7 @@
 ghost use mathlib.Core.Path.{_≡_};
 ghost use mathlib.Core.List.{[]};
 ghost use Rattle.transfers.specs.Transfers.{exchangeSeparate};
-ghost use Rattle.transfers.specs.Flush.{flushRun};
+ghost use Rattle.runs.specs.Flush.{flushRun};
 ghost use Rattle.machine.specs.Driver.{startDriver};
 ghost use Rattle.c_api.specs.Host.{driverFrom};
 ghost use Rattle.c_api.specs.HostRun.{hostLeft, ofTransfer, ofCall};
@@ -10,9 +10,9 @@ use crate::command::mode_of;
 use crate::command::order_of;
 use crate::command::pcs_of;
 use machine::driver::Lpspi;
+use runs::flush::flush;
 use transfers::exchange_separate::exchange_separate_u8;
 use transfers::exchange_separate::exchange_separate_u32;
-use transfers::flush::flush;
 
 fn driver_of(lsb: bool, mode: u32, pcs: u32) -> Lpspi
     ensures { λ r. ⌜ r ≡ driverFrom lsb mode pcs ⌝ }

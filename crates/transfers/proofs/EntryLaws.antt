@@ -29,13 +29,13 @@ use Rattle.machine.specs.declared.driver.Lpspi.{Lpspi}
 use Rattle.machine.specs.declared.transfer.Transfer.{Transfer}
 use Rattle.machine.specs.Driver.{driverCommand}
 use Rattle.machine.specs.Transfer.{startTransfer}
-use Rattle.transfers.specs.declared.drive.Driven.{Driven}
-use Rattle.transfers.specs.declared.drive.Frame.{Frame}
-use Rattle.transfers.specs.declared.result.RunResult.{RunResult}
-use Rattle.transfers.specs.Run.{State, limits}
+use Rattle.runs.specs.declared.drive.Driven.{Driven}
+use Rattle.runs.specs.declared.drive.Frame.{Frame}
+use Rattle.runs.specs.declared.result.RunResult.{RunResult}
+use Rattle.runs.specs.Run.{State, limits}
 use Rattle.transfers.specs.Transfers.{Plan, transferLeft, transferred, exchangeSeparate, exchange, writeNoRead, readNoWrite, separatePlan, inPlacePlan, writePlan, readPlan}
-use Rattle.transfers.specs.Drive.{sentFrom, drivenLeft, drivenBy, DrivenLeft, resultOf, states}
-use Rattle.transfers.proofs.FlushLaws.{room}
+use Rattle.runs.specs.Drive.{sentFrom, drivenLeft, drivenBy, DrivenLeft, wordsRun, resultOf}
+use Rattle.runs.proofs.DriveLaws.{words-run}
 use Rattle.transfers.proofs.TransferLaws.{longer-length, left-unstarted, left-run, stored-elements, sent-packed, sent-in-place, accepted-words, holds-one, blank-at}
 
 -- NO ACCESS: `full` answers number 5, `len` is the total length that the code has
@@ -66,18 +66,10 @@ longer-total a b e = ap (λ (y : RefT (List ℕ)). length (now y)) e ∙ longer-
 
 -- THE RUN
 
--- the log has room for the budget
-pub roomy : (budget : ℕ) (log : List ℕ) {full : Bool} → full ≡ limits budget log → full ≡ false → 2 * budget ≤ length log
-roomy budget log ef e = room budget log (sym ef ∙ e)
-
 -- there is a transaction u for `len` elements
 module _ (x : Width) (len : ℕ) {t : TransactionResult} (u : Transaction) (eu : t ≡ Made u) (ec : commandAnswer t ≡ framed (widthBits x * len)) where
   made-frame : frameAccepted (widthBits x * len) ≡ true
   made-frame = accepted-word (widthBits x * len) u (ap commandAnswer (sym eu) ∙ ec) .0
-
-  -- the arrays have places for its words
-  pub made-places : {n : ℕ} → n ≡ wordCount (widthBits x) len → n ≤ 128
-  made-places en = omega (arith, en, accepted-words x len made-frame)
 
   -- o and n are the order and the count of words that the code has
   module _ (d : Lpspi) (budget : ℕ) (script log : List ℕ) {full : Bool} {o : BitOrder} {n : ℕ} (ef : full ≡ limits budget log) (e : full ≡ false) (some : len ≡ 0 → ⊥)
@@ -91,19 +83,20 @@ module _ (x : Width) (len : ℕ) {t : TransactionResult} (u : Transaction) (eu :
     abbrev frame : Bool → Frame
     frame b = record { width = x; total = len; inplace = b }
 
+    -- the arrays have places for its words
     fits : wordCount k len ≤ 128
-    fits = made-places refl
+    fits = accepted-words x len made-frame
 
     -- a run by a plan, to the result r and what `run` leaves
     module _ (p : Plan) (buffer : List ℕ) (b : Bool) (send olds : List ℕ) (sends receives command : ℕ) (et : len ≡ p .total) (es : sends ≡ p .send) (er : receives ≡ p .receive)
         (c : command ≡ p .command (driverCommand d (u .0))) (w : (rs : List ℕ) (i : ℕ) → sentFrom (frame b) send olds rs i ≡ p .words rs i) (r : RunResult) (y : Driven)
-        (log′ words′ : List ℕ) (ey : drivenLeft y log′ words′ ≡ drivenBy log olds (states (frame b) script send olds (startTransfer d command sends receives) budget))
+        (log′ words′ : List ℕ) (ey : drivenLeft y log′ words′ ≡ wordsRun d command (record { send = sends; receive = receives }) (frame b) budget script send log olds)
         (ed : r ≡ resultOf d y) where
       ends : (given : DrivenLeft → List ℕ) → ((s : State Transfer) → given (drivenBy log olds s) ≡ laid (unpackWords (d .order) k (p .total) (s .received)) buffer)
           → transferLeft r log′ (given (drivenLeft y log′ words′)) ≡ transferred k d p buffer budget script log
       ends given shown =
           left-run k d p buffer budget script log (frame b) send olds len sends receives command et es er (sym ef ∙ e) some made-frame
-          (c ∙ ap (λ (v : ℕ). p .command (driverCommand d v)) (accepted-word (k * len) u (ap commandAnswer (sym eu) ∙ ec) .1)) w given shown r y log′ words′ ey ed
+          (c ∙ ap (λ (v : ℕ). p .command (driverCommand d v)) (accepted-word (k * len) u (ap commandAnswer (sym eu) ∙ ec) .1)) w given shown r y log′ words′ (ey ∙ sym (words-run d command (record { send = sends; receive = receives }) (frame b) budget script send log olds (sym ef ∙ e))) ed
 
       -- the elements received over the front of the buffer
       ends-over : wordCount k len ≤ length olds → (buffer′ : List ℕ) → buffer′ ≡ laid (unpackWords o k len (take (y .spot .received) words′)) buffer
@@ -123,7 +116,7 @@ module _ (x : Width) (len : ℕ) {t : TransactionResult} (u : Transaction) (eu :
     module _ {y : Driven} {log′ words′ : List ℕ} {command : ℕ} {r : RunResult} (ed : r ≡ resultOf d y) where
       pub separate-left : (read write : List ℕ) → len ≡ max (length read) (length write) → (send : List ℕ) {read′ : List ℕ} → send ≡ laid (packWords o k len write) zeros
           → command ≡ driverCommand d (u .0)
-          → drivenLeft y log′ words′ ≡ drivenBy log zeros (states (frame false) script send zeros (startTransfer d command n n) budget)
+          → drivenLeft y log′ words′ ≡ wordsRun d command (record { send = n; receive = n }) (frame false) budget script send log zeros
           → read′ ≡ laid (unpackWords o k len (take (y .spot .received) words′)) read
           → transferLeft r log′ read′ ≡ exchangeSeparate k d read write budget script log
       separate-left read write et send {read′ = read′} es c ey eb =
@@ -132,7 +125,7 @@ module _ (x : Width) (len : ℕ) {t : TransactionResult} (u : Transaction) (eu :
           r y log′ words′ ey ed fits read′ eb
 
       pub in-place-left : (buf : List ℕ) → len ≡ length buf → (send : List ℕ) {buf′ : List ℕ} → send ≡ laid (packWords o k len buf) zeros → command ≡ driverCommand d (u .0)
-          → drivenLeft y log′ words′ ≡ drivenBy log zeros (states (frame true) script send zeros (startTransfer d command n n) budget)
+          → drivenLeft y log′ words′ ≡ wordsRun d command (record { send = n; receive = n }) (frame true) budget script send log zeros
           → buf′ ≡ laid (unpackWords o k len (take (y .spot .received) words′)) buf
           → transferLeft r log′ buf′ ≡ exchange k d buf budget script log
       in-place-left buf et send {buf′ = buf′} es c ey eb =
@@ -143,7 +136,7 @@ module _ (x : Width) (len : ℕ) {t : TransactionResult} (u : Transaction) (eu :
 
       pub write-left : (buf : List ℕ) → len ≡ length buf → (send : List ℕ) {plain : ℕ} → send ≡ laid (packWords o k len buf) zeros → plain ≡ driverCommand d (u .0)
           → command ≡ setFlag RXMSK true plain
-          → drivenLeft y log′ words′ ≡ drivenBy log [] (states (frame false) script send [] (startTransfer d command n 0) budget)
+          → drivenLeft y log′ words′ ≡ wordsRun d command (record { send = n; receive = 0 }) (frame false) budget script send log []
           → transferLeft r log′ [] ≡ writeNoRead k d buf budget script log
       write-left buf et send es c m ey =
           ends (writePlan k d buf) [] false send [] n 0 command et (en ∙ ap (wordCount k) et) refl (m ∙ ap (setFlag RXMSK true) c)
@@ -151,7 +144,7 @@ module _ (x : Width) (len : ℕ) {t : TransactionResult} (u : Transaction) (eu :
           r y log′ words′ ey ed (λ (z : DrivenLeft). []) (λ s. sym (laid-nothing (unpackWords (d .order) k (length buf) (s .received))))
 
       pub read-left : (buf : List ℕ) → len ≡ length buf → {buf′ : List ℕ} {plain : ℕ} → plain ≡ driverCommand d (u .0) → command ≡ setFlag TXMSK true plain
-          → drivenLeft y log′ words′ ≡ drivenBy log zeros (states (frame false) script [] zeros (startTransfer d command 0 n) budget)
+          → drivenLeft y log′ words′ ≡ wordsRun d command (record { send = 0; receive = n }) (frame false) budget script [] log zeros
           → buf′ ≡ laid (unpackWords o k len (take (y .spot .received) words′)) buf
           → transferLeft r log′ buf′ ≡ readNoWrite k d buf budget script log
       read-left buf et {buf′ = buf′} c m ey eb =

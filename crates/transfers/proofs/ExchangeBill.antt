@@ -17,11 +17,11 @@ use Rattle.machine.specs.declared.driver.Lpspi.{Lpspi}
 use Rattle.machine.specs.declared.transfer.Transfer.{Transfer}
 use Rattle.machine.specs.Driver.{driverCommand}
 use Rattle.machine.specs.Transfer.{startTransfer, endedTransfer, dueAccess, resumed}
-use Rattle.transfers.specs.Run.{State, start, run, limits, endingOf, refused, ran}
+use Rattle.runs.specs.Run.{State, start, run, limits, endingOf, refused, ran}
 use Rattle.transfers.specs.Transfers.{Plan, begun, TransferLeft, transferred, separatePlan, inPlacePlan, exchangeSeparate, exchange}
-use Rattle.transfers.specs.Unready.{unreadyPolls}
-use Rattle.transfers.proofs.RunLaws.{run-halted}
-use Rattle.transfers.proofs.Bill.{ok-exactly}
+use Rattle.runs.specs.Unready.{unreadyPolls}
+use Rattle.runs.proofs.RunLaws.{run-halted}
+use Rattle.runs.proofs.Bill.{ok-exactly}
 
 module _ (k : ℕ) (d : Lpspi) (p : Plan) (budget : ℕ) (script : List ℕ) where
   abbrev from : Transfer → State Transfer

@@ -30,14 +30,14 @@ use Rattle.machine.specs.declared.driver.Lpspi.{Lpspi}
 use Rattle.machine.specs.declared.transfer.Transfer.{Transfer}
 use Rattle.machine.specs.Driver.{driverCommand}
 use Rattle.machine.specs.Transfer.{startTransfer, endedTransfer, dueAccess, resumed}
-use Rattle.transfers.specs.declared.drive.Frame.{Frame}
-use Rattle.transfers.specs.declared.drive.Driven.{Driven}
-use Rattle.transfers.specs.declared.result.RunResult.{RunResult}
-use Rattle.transfers.specs.Run.{State, start, run, limits, endingOf, logOver, left}
+use Rattle.runs.specs.declared.drive.Frame.{Frame}
+use Rattle.runs.specs.declared.drive.Driven.{Driven}
+use Rattle.runs.specs.declared.result.RunResult.{RunResult}
+use Rattle.runs.specs.Run.{State, start, run, limits, endingOf, logOver, left}
 use Rattle.transfers.specs.Transfers.{Plan, begun, states, transferLeft, transferred}
-use Rattle.transfers.specs.Drive.{stored, sentFrom, drivenLeft, drivenBy, DrivenLeft, resultOf, states as driveStates}
-use Rattle.transfers.proofs.RunLaws.{run-halted}
-use Rattle.transfers.proofs.RunDepends.{run-words}
+use Rattle.runs.specs.Drive.{stored, sentFrom, drivenLeft, drivenBy, DrivenLeft, resultOf, states as driveStates}
+use Rattle.runs.proofs.RunLaws.{run-halted}
+use Rattle.runs.proofs.RunDepends.{run-words}
 
 -- THE TOTAL LENGTH
 pub longer-length : (r w : RefT (List ℕ)) → length (now (longer r w)) ≡ max (length (now r)) (length (now w))
@@ -101,18 +101,7 @@ module _ (k : ℕ) (d : Lpspi) (p : Plan) (buffer : List ℕ) (budget : ℕ) (sc
         }) same-states
         ∙ rw (h, shown (states k d p script budget))
 
--- THE WORDS THAT ARE STORED have places, and give the elements of all words received
-module _ {x : Driven} {log′ words′ : List ℕ} (log olds : List ℕ) (s : State Transfer) (e : drivenLeft x log′ words′ ≡ drivenBy log olds s) where
-  pub stored-fits : x .spot .received ≤ length words′
-  unfolding drivenBy
-  stored-fits =
-      let r = ap (λ (y : DrivenLeft). y .driven .spot .received) e in
-      let l = ap (λ (y : DrivenLeft). length (y .words)) e ∙ length-laid (s .received) olds in
-      omega (arith, r, l)
-
-  pub stored-length : x .spot .received ≡ length (take (x .spot .received) words′)
-  stored-length = omega (arith, stored-fits, length-take (x .spot .received) words′)
-
+-- THE WORDS THAT ARE STORED give the elements of all words received
 pub stored-elements : (o : BitOrder) (k total : ℕ) (rs olds : List ℕ) → 0 < perWord k → wordCount k total ≤ length olds
     → unpackWords o k total (take (stored rs olds) (laid rs olds)) ≡ unpackWords o k total rs
 stored-elements o k total rs olds more places =

@@ -1,8 +1,1 @@
--- Read in this order.
-pub mod Run
-pub mod Flush
 pub mod Transfers
-pub mod Unlimited
-pub mod Unready
-pub mod Drive
-pub mod Turns

@@ -15,8 +15,8 @@ use Rattle.machine.specs.declared.driver.Lpspi.{Lpspi}
 use Rattle.machine.specs.declared.transfer.Transfer.{Transfer}
 use Rattle.machine.specs.Driver.{driverCommand}
 use Rattle.machine.specs.Transfer.{startTransfer, endedTransfer, dueAccess, resumed}
-use Rattle.transfers.specs.declared.result.RunResult.{RunResult}
-use Rattle.transfers.specs.Run.{State, Left, left, limits, refused, run, start, ran}
+use Rattle.runs.specs.declared.result.RunResult.{RunResult}
+use Rattle.runs.specs.Run.{State, Left, left, limits, refused, run, start, ran}
 
 -- what a transfer is: its total length in elements, what is set in its command beside what the driver sets, the FIFO words that it sends and
 -- receives, and the word sent at a place, by the words received so far

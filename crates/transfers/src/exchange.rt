@@ -1,16 +1,16 @@
 // `exchange`: transmit a buffer and receive into it.
 ghost use mathlib.Core.Path.{_≡_};
 ghost use Rattle.transfers.specs.Transfers.{transferLeft, exchange};
-use crate::drive::Frame;
-use crate::log::limits;
-use crate::result::RunResult;
-use crate::transfer::WORDS;
-use crate::transfer::result;
-use crate::transfer::run;
-use crate::transfer::unmoved;
-use crate::turns::Count;
+use crate::entry::WORDS;
+use crate::entry::result;
+use crate::entry::unmoved;
 use machine::access::Ending;
 use machine::driver::Lpspi;
+use runs::drive::Frame;
+use runs::log::limits;
+use runs::result::RunResult;
+use runs::transfer::run_words;
+use runs::turns::Count;
 use words::buffer::pack_words_u8;
 use words::buffer::pack_words_u16;
 use words::buffer::pack_words_u32;
@@ -55,7 +55,7 @@ pub fn exchange_u8(
     let mut send = [0u32; WORDS];
     let mut words = [0u32; WORDS];
     pack_words_u8(order, buf, total, &mut send);
-    let driven = run(
+    let driven = run_words(
         driver,
         driver.bus_transaction(transaction),
         count,
@@ -105,7 +105,7 @@ pub fn exchange_u16(
     let mut send = [0u32; WORDS];
     let mut words = [0u32; WORDS];
     pack_words_u16(order, buf, total, &mut send);
-    let driven = run(
+    let driven = run_words(
         driver,
         driver.bus_transaction(transaction),
         count,
@@ -155,7 +155,7 @@ pub fn exchange_u32(
     let mut send = [0u32; WORDS];
     let mut words = [0u32; WORDS];
     pack_words_u32(order, buf, total, &mut send);
-    let driven = run(
+    let driven = run_words(
         driver,
         driver.bus_transaction(transaction),
         count,

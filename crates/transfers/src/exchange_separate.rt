@@ -1,16 +1,16 @@
 // `exchange_separate`: transmit one buffer and receive into the other, of any lengths.
 ghost use mathlib.Core.Path.{_≡_};
 ghost use Rattle.transfers.specs.Transfers.{transferLeft, exchangeSeparate};
-use crate::drive::Frame;
-use crate::log::limits;
-use crate::result::RunResult;
-use crate::transfer::WORDS;
-use crate::transfer::result;
-use crate::transfer::run;
-use crate::transfer::unmoved;
-use crate::turns::Count;
+use crate::entry::WORDS;
+use crate::entry::result;
+use crate::entry::unmoved;
 use machine::access::Ending;
 use machine::driver::Lpspi;
+use runs::drive::Frame;
+use runs::log::limits;
+use runs::result::RunResult;
+use runs::transfer::run_words;
+use runs::turns::Count;
 use words::buffer::pack_words_u8;
 use words::buffer::pack_words_u16;
 use words::buffer::pack_words_u32;
@@ -60,7 +60,7 @@ pub fn exchange_separate_u8(
     let mut send = [0u32; WORDS];
     let mut words = [0u32; WORDS];
     pack_words_u8(order, write, total, &mut send);
-    let driven = run(
+    let driven = run_words(
         driver,
         driver.bus_transaction(transaction),
         count,
@@ -112,7 +112,7 @@ pub fn exchange_separate_u16(
     let mut send = [0u32; WORDS];
     let mut words = [0u32; WORDS];
     pack_words_u16(order, write, total, &mut send);
-    let driven = run(
+    let driven = run_words(
         driver,
         driver.bus_transaction(transaction),
         count,
@@ -164,7 +164,7 @@ pub fn exchange_separate_u32(
     let mut send = [0u32; WORDS];
     let mut words = [0u32; WORDS];
     pack_words_u32(order, write, total, &mut send);
-    let driven = run(
+    let driven = run_words(
         driver,
         driver.bus_transaction(transaction),
         count,

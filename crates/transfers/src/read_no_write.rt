@@ -1,16 +1,16 @@
 // `read_no_write`: transmit nothing and receive into a buffer.
 ghost use mathlib.Core.Path.{_≡_};
 ghost use Rattle.transfers.specs.Transfers.{transferLeft, readNoWrite};
-use crate::drive::Frame;
-use crate::log::limits;
-use crate::result::RunResult;
-use crate::transfer::WORDS;
-use crate::transfer::result;
-use crate::transfer::run;
-use crate::transfer::unmoved;
-use crate::turns::Count;
+use crate::entry::WORDS;
+use crate::entry::result;
+use crate::entry::unmoved;
 use machine::access::Ending;
 use machine::driver::Lpspi;
+use runs::drive::Frame;
+use runs::log::limits;
+use runs::result::RunResult;
+use runs::transfer::run_words;
+use runs::turns::Count;
 use words::buffer::unpack_words_u8;
 use words::buffer::unpack_words_u16;
 use words::buffer::unpack_words_u32;
@@ -51,7 +51,7 @@ pub fn read_no_write_u8(
     };
     let send = [0u32; 0];
     let mut words = [0u32; WORDS];
-    let driven = run(
+    let driven = run_words(
         driver,
         driver
             .bus_transaction(transaction)
@@ -102,7 +102,7 @@ pub fn read_no_write_u16(
     };
     let send = [0u32; 0];
     let mut words = [0u32; WORDS];
-    let driven = run(
+    let driven = run_words(
         driver,
         driver
             .bus_transaction(transaction)
@@ -153,7 +153,7 @@ pub fn read_no_write_u32(
     };
     let send = [0u32; 0];
     let mut words = [0u32; WORDS];
-    let driven = run(
+    let driven = run_words(
         driver,
         driver
             .bus_transaction(transaction)

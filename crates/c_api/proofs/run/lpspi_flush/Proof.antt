@@ -4,7 +4,7 @@ use mathlib.Core.List.{[]}
 use mathlib.Core.Path.{ap, _∙_}
 use Prim.Native.Nat.{ℕ}
 use Rattle.machine.specs.declared.driver.Lpspi.{Lpspi}
-use Rattle.transfers.specs.Flush.{flushRun}
+use Rattle.runs.specs.Flush.{flushRun}
 use Rattle.c_api.specs.HostRun.{hostLeft, ofCall}
 use borrow.Author.Needs.{needs}
 use Rattle.c_api.proofs.run.lpspi_flush.Statement.{statement}

@@ -5,8 +5,8 @@ use lib.ListN.{length}
 use Rattle.words.specs.declared.width.Width.the-variants.{U16}
 use Rattle.words.specs.Width.{widthBits}
 use Rattle.transfers.specs.Transfers.{inPlacePlan}
-use Rattle.transfers.proofs.TransferLaws.{stored-fits, stored-length}
-use Rattle.transfers.proofs.EntryLaws.{ends-limits, ends-empty, ends-refused, roomy, made-places, in-place-left}
+use Rattle.runs.proofs.DriveLaws.{words-stored, words-length}
+use Rattle.transfers.proofs.EntryLaws.{ends-limits, ends-empty, ends-refused, in-place-left}
 use borrow.Author.Needs.{needs}
 use Rattle.transfers.proofs.exchange.exchange_u16.Statement.{statement}
 use Rattle.transfers.proofs.exchange.exchange_u16.Tie as tie
@@ -38,21 +38,11 @@ returns-3 c =
     ends-refused U16 (a .driver) (inPlacePlan (widthBits U16) (a .driver) (a .buf .now)) (a .buf .now) (a .budget) (a .script .now) (a .log .now) (full .limits .ensures)
     (length (a .buf .now)) (free .if1 .left) refl (some .if2 .left) (told .enum-told .given .0 .0) (told .enum-told .given .1) (new .new-u16s .ensures) (c .unmoved3 .ensures)
 
-run-requires : tie.Need-run-requires
-run-requires c κs =
-    let count = c .before .before .before .before .before .before .before .before in
-    let made = count .before .before .before in
-    let new = made .before .before in
-    let free = new .before .before .before in
-    let full = free .before in
-    let a = full .before .before .before .before .before .args in
-    (roomy (a .budget) (a .log .now) (full .limits .ensures) (free .if1 .left), made-places U16 (length (a .buf .now)) (made .transaction .given .0 .0) (made .transaction .given .1) (new .new-u16s .ensures) (count .word-count .ensures))
-
 array-share-prefix-words : tie.Need-array-share-prefix-words
-array-share-prefix-words c = stored-fits _ _ _ (c .before .before .before .before .run .ensures)
+array-share-prefix-words c = words-stored _ _ _ _ _ _ _ _ _ (c .before .before .before .before .run-words .ensures)
 
 slice-aggregate-unpack-words-u16 : tie.Need-slice-aggregate-unpack-words-u16
-slice-aggregate-unpack-words-u16 c = stored-length _ _ _ (c .before .before .before .before .before .run .ensures)
+slice-aggregate-unpack-words-u16 c = words-length _ _ _ _ _ _ _ _ _ (c .before .before .before .before .before .run-words .ensures)
 
 returns-4 : tie.Need-returns-4
 returns-4 c =
@@ -71,7 +61,7 @@ returns-4 c =
     in-place-left U16 (length (a .buf .now)) (made .transaction .given .0 .0) (made .transaction .given .1) (new .new-u16s .ensures)
     (a .driver) (a .budget) (a .script .now) (a .log .now) (full .limits .ensures) (free .if1 .left) (some .if2 .left) (order .bit-order .ensures) (count .word-count .ensures)
     (c .result .ensures) (a .buf .now) refl
-    (pack .pack-words-u16 .last .1 .1 .1 .0) (pack .pack-words-u16 .ensures) (bus .bus-transaction .ensures) (run .run .ensures) (unpack .unpack-words-u16 .ensures)
+    (pack .pack-words-u16 .last .1 .1 .1 .0) (pack .pack-words-u16 .ensures) (bus .bus-transaction .ensures) (run .run-words .ensures) (unpack .unpack-words-u16 .ensures)
 
 pub exchange-u16-spec : {M : Type 1} → statement M
 exchange-u16-spec =
@@ -98,7 +88,7 @@ exchange-u16-spec =
     (λ c κs. search needs)
     (λ c. search needs)
     (λ c. search needs)
-    run-requires
+    (λ c κs. search needs)
     array-share-prefix-words
     slice-aggregate-unpack-words-u16
     (λ c κs. search needs)

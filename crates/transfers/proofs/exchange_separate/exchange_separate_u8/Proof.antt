@@ -5,8 +5,8 @@ use lib.ListN.{length}
 use Rattle.words.specs.declared.width.Width.the-variants.{U8}
 use Rattle.words.specs.Width.{widthBits}
 use Rattle.transfers.specs.Transfers.{separatePlan}
-use Rattle.transfers.proofs.TransferLaws.{stored-fits, stored-length}
-use Rattle.transfers.proofs.EntryLaws.{ends-limits, ends-empty, ends-refused, longer-total, roomy, made-places, separate-left}
+use Rattle.runs.proofs.DriveLaws.{words-stored, words-length}
+use Rattle.transfers.proofs.EntryLaws.{ends-limits, ends-empty, ends-refused, longer-total, separate-left}
 use borrow.Author.Needs.{needs}
 use Rattle.transfers.proofs.exchange_separate.exchange_separate_u8.Statement.{statement}
 use Rattle.transfers.proofs.exchange_separate.exchange_separate_u8.Tie as tie
@@ -40,22 +40,11 @@ returns-3 c =
     ends-refused U8 (a .driver) (separatePlan (widthBits U8) (a .driver) (a .read .now) (a .write .now)) (a .read .now) (a .budget) (a .script .now) (a .log .now) (full .limits .ensures)
     (length (now (longer .longer-u8 .result))) (free .if1 .left) (longer-total _ _ (longer .longer-u8 .ensures)) (some .if2 .left) (told .enum-told .given .0 .0) (told .enum-told .given .1) (new .new-u8s .ensures) (c .unmoved3 .ensures)
 
-run-requires : tie.Need-run-requires
-run-requires c κs =
-    let count = c .before .before .before .before .before .before .before in
-    let made = count .before .before .before in
-    let new = made .before .before in
-    let longer = new .before .before in
-    let free = longer .before .before in
-    let full = free .before in
-    let a = full .before .before .before .before .before .before .args in
-    (roomy (a .budget) (a .log .now) (full .limits .ensures) (free .if1 .left), made-places U8 (length (now (longer .longer-u8 .result))) (made .transaction .given .0 .0) (made .transaction .given .1) (new .new-u8s .ensures) (count .word-count .ensures))
-
 array-share-prefix-words : tie.Need-array-share-prefix-words
-array-share-prefix-words c = stored-fits _ _ _ (c .before .before .before .before .run .ensures)
+array-share-prefix-words c = words-stored _ _ _ _ _ _ _ _ _ (c .before .before .before .before .run-words .ensures)
 
 slice-aggregate-unpack-words-u8 : tie.Need-slice-aggregate-unpack-words-u8
-slice-aggregate-unpack-words-u8 c = stored-length _ _ _ (c .before .before .before .before .before .run .ensures)
+slice-aggregate-unpack-words-u8 c = words-length _ _ _ _ _ _ _ _ _ (c .before .before .before .before .before .run-words .ensures)
 
 returns-4 : tie.Need-returns-4
 returns-4 c =
@@ -75,7 +64,7 @@ returns-4 c =
     separate-left U8 (length (now (longer .longer-u8 .result))) (made .transaction .given .0 .0) (made .transaction .given .1) (new .new-u8s .ensures)
     (a .driver) (a .budget) (a .script .now) (a .log .now) (full .limits .ensures) (free .if1 .left) (some .if2 .left) (order .bit-order .ensures) (count .word-count .ensures)
     (c .result .ensures) (a .read .now) (a .write .now) (longer-total _ _ (longer .longer-u8 .ensures))
-    (pack .pack-words-u8 .last .1 .1 .1 .0) (pack .pack-words-u8 .ensures) (bus .bus-transaction .ensures) (run .run .ensures) (unpack .unpack-words-u8 .ensures)
+    (pack .pack-words-u8 .last .1 .1 .1 .0) (pack .pack-words-u8 .ensures) (bus .bus-transaction .ensures) (run .run-words .ensures) (unpack .unpack-words-u8 .ensures)
 
 pub exchange-separate-u8-spec : {M : Type 1} → statement M
 exchange-separate-u8-spec =
@@ -104,7 +93,7 @@ exchange-separate-u8-spec =
     (λ c κs. search needs)
     (λ c. search needs)
     (λ c. search needs)
-    run-requires
+    (λ c κs. search needs)
     array-share-prefix-words
     slice-aggregate-unpack-words-u8
     (λ c κs. search needs)

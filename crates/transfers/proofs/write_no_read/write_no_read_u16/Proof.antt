@@ -7,7 +7,7 @@ use lib.ListN.{length}
 use Rattle.words.specs.declared.width.Width.the-variants.{U16}
 use Rattle.words.specs.Width.{widthBits}
 use Rattle.transfers.specs.Transfers.{writePlan}
-use Rattle.transfers.proofs.EntryLaws.{ends-limits, ends-empty, ends-refused, roomy, write-left}
+use Rattle.transfers.proofs.EntryLaws.{ends-limits, ends-empty, ends-refused, write-left}
 use borrow.Author.Needs.{needs}
 use Rattle.transfers.proofs.write_no_read.write_no_read_u16.Statement.{statement}
 use Rattle.transfers.proofs.write_no_read.write_no_read_u16.Tie as tie
@@ -39,13 +39,6 @@ returns-3 c =
     ends-refused U16 (a .driver) (writePlan (widthBits U16) (a .driver) (a .buf .now)) [] (a .budget) (a .script .now) (a .log .now) (full .limits .ensures)
     (length (a .buf .now)) (free .if1 .left) refl (some .if2 .left) (told .enum-told .given .0 .0) (told .enum-told .given .1) (new .new-u16s .ensures) (c .unmoved3 .ensures)
 
-run-requires : tie.Need-run-requires
-run-requires c κs =
-    let free = c .before .before .before .before .before .before .before .before .before .before .before .before .before .before .before in
-    let full = free .before in
-    let a = full .before .before .before .before .before .args in
-    (roomy (a .budget) (a .log .now) (full .limits .ensures) (free .if1 .left), omega arith)
-
 returns-4 : tie.Need-returns-4
 returns-4 c =
     let run = c .before .before .before .before in
@@ -63,7 +56,7 @@ returns-4 c =
     write-left U16 (length (a .buf .now)) (made .transaction .given .0 .0) (made .transaction .given .1) (new .new-u16s .ensures)
     (a .driver) (a .budget) (a .script .now) (a .log .now) (full .limits .ensures) (free .if1 .left) (some .if2 .left) (order .bit-order .ensures) (count .word-count .ensures)
     (c .result .ensures) (a .buf .now) refl
-    (pack .pack-words-u16 .last .1 .1 .1 .0) (pack .pack-words-u16 .ensures) (bus .bus-transaction .ensures) (mask .with-receive-data-mask .ensures) (run .run .ensures)
+    (pack .pack-words-u16 .last .1 .1 .1 .0) (pack .pack-words-u16 .ensures) (bus .bus-transaction .ensures) (mask .with-receive-data-mask .ensures) (run .run-words .ensures)
 
 pub write-no-read-u16-spec : {M : Type 1} → statement M
 write-no-read-u16-spec =
@@ -90,7 +83,7 @@ write-no-read-u16-spec =
     (λ c κs. search needs)
     (λ c. search needs)
     (λ c. search needs)
-    run-requires
+    (λ c κs. search needs)
     (λ c κs. search needs)
     (λ c. search needs)
     returns-4)

@@ -1,0 +1,263 @@
+// Runs over a script and prints them as document 01's `buslog` does: the accesses, the read elements, then result, accesses made and answers
+// used.
+use libc::STDOUT_FILENO;
+use machine::driver::Lpspi;
+use runs::flush::flush;
+use runs::result::RunResult;
+use transfers::exchange::exchange_u8;
+use transfers::exchange_separate::exchange_separate_u8;
+use transfers::exchange_separate::exchange_separate_u16;
+use transfers::read_no_write::read_no_write_u32;
+use transfers::write_no_read::write_no_read_u8;
+use words::order::BitOrder;
+
+fn text(bytes: &[u8]) {
+    io::write_all(STDOUT_FILENO, bytes);
+}
+
+// A hexadecimal digit, in capitals.
+fn digit(n: u32) -> u8 {
+    let d = (n % 16) as u8;
+    if d < 10 { 48 + d } else { 55 + d }
+}
+
+fn two_digits(n: u32) {
+    let digits = [digit(n / 0x10), digit(n)];
+    text(&digits);
+}
+
+fn four_digits(n: u32) {
+    two_digits(n / 0x100);
+    two_digits(n);
+}
+
+fn eight_digits(n: u32) {
+    four_digits(n / 0x1_0000);
+    four_digits(n);
+}
+
+fn access(at: u32, value: u32) {
+    if at < 0x1000 {
+        text(b"R ");
+    } else {
+        text(b"W ");
+    }
+    two_digits(at);
+    text(b" ");
+    eight_digits(value);
+    text(b"\n");
+}
+
+fn accesses(log: &[u32], made: usize) {
+    for i in 0..made {
+        if i < log.len() / 2 {
+            access(log[2 * i], log[2 * i + 1]);
+        }
+    }
+}
+
+fn result(r: RunResult) {
+    let ending = r.ending;
+    io::print_decimal(STDOUT_FILENO, ending.number() as u64);
+    text(b" ");
+    io::print_decimal(STDOUT_FILENO, r.accesses as u64);
+    text(b" ");
+    io::print_decimal(STDOUT_FILENO, r.answers as u64);
+    text(b"\n");
+}
+
+fn byte(b: u8) {
+    two_digits(b as u32);
+    text(b"\n");
+}
+
+fn bytes(read: &[u8]) {
+    for i in 0..read.len() {
+        byte(read[i]);
+    }
+}
+
+// Document 01's example.
+fn show_example() {
+    text(b"exchange of A5, all ready\n");
+    let script = [0u32, 0x404, 0, 0, 0x404, 0, 0, 0x404, 0x10000, 0x5A];
+    let mut log = [0u32; 40];
+    let mut read = [0u8; 1];
+    let r = exchange_separate_u8(Lpspi::new(), &mut read, &[0xA5u8], 20, &script, &mut log);
+    accesses(&log, r.accesses);
+    bytes(&read);
+    result(r);
+}
+
+// A receive error after the command: the recovery keeps eight registers and MEN, waits until MEN reads 0, and writes them back.
+fn show_recovery(budget: usize) {
+    let script = [
+        0u32,
+        0x404,
+        0,
+        0,
+        0x404,
+        0,
+        0x1000,
+        0x11,
+        0x22,
+        0x33,
+        0x44,
+        0x55,
+        0x66,
+        0x0707_070E,
+        0x88,
+        1,
+        1,
+        3,
+        2,
+        2,
+        0,
+        0,
+    ];
+    let mut log = [0u32; 80];
+    let mut read = [0x77u8; 1];
+    let r = exchange_separate_u8(
+        Lpspi::new(),
+        &mut read,
+        &[0xA5u8],
+        budget,
+        &script,
+        &mut log,
+    );
+    accesses(&log, r.accesses);
+    bytes(&read);
+    result(r);
+}
+
+// In place: the second word comes in before its place is sent, so it goes out as received, cut to its one byte.
+fn show_in_place() {
+    text(b"exchange in place of 01 02 03 04 05\n");
+    let script = [
+        0u32,
+        0x404,
+        0,
+        0,
+        0x404,
+        0,
+        0,
+        0x404,
+        4,
+        0,
+        0x404,
+        0x20000,
+        0xAABB_CCDD,
+        0,
+        0x404,
+        0x10000,
+        0x1122_3344,
+        0,
+        0x404,
+        0,
+    ];
+    let mut log = [0u32; 80];
+    let mut buf = [1u8, 2, 3, 4, 5];
+    let r = exchange_u8(Lpspi::new(), &mut buf, 40, &script, &mut log);
+    accesses(&log, r.accesses);
+    bytes(&buf);
+    result(r);
+}
+
+// Buffers of unequal lengths: the missing elements are sent as dummies.
+fn show_halves() {
+    text(b"exchange of 1122 for three halves, LSB\n");
+    let script = [
+        0u32,
+        0x404,
+        0,
+        0,
+        0x404,
+        0,
+        0,
+        0x404,
+        0,
+        0,
+        0x404,
+        0x10000,
+        0x3344_1122,
+        0,
+        0x404,
+        0x10000,
+        0x5566,
+    ];
+    let mut log = [0u32; 80];
+    let mut read = [0u16; 3];
+    let driver = Lpspi::new().with_bit_order(BitOrder::Lsb);
+    let r = exchange_separate_u16(driver, &mut read, &[0x1122u16], 40, &script, &mut log);
+    accesses(&log, r.accesses);
+    half(read[0]);
+    half(read[1]);
+    half(read[2]);
+    result(r);
+}
+
+fn half(h: u16) {
+    four_digits(h as u32);
+    text(b"\n");
+}
+
+fn show_one_way() {
+    text(b"write of 11 22 33\n");
+    let script = [0u32, 0x404, 0, 0, 0x404, 0];
+    let mut log = [0u32; 40];
+    let r = write_no_read_u8(Lpspi::new(), &[0x11u8, 0x22, 0x33], 20, &script, &mut log);
+    accesses(&log, r.accesses);
+    result(r);
+    text(b"read of one word\n");
+    let script = [0u32, 0x404, 0, 0, 0x404, 0x10000, 0xDEAD_BEEF];
+    let mut read = [0u32; 1];
+    let r = read_no_write_u32(Lpspi::new(), &mut read, 20, &script, &mut log);
+    accesses(&log, r.accesses);
+    eight_digits(read[0]);
+    text(b"\n");
+    result(r);
+}
+
+// What is refused, and what makes no access.
+fn show_refusals() {
+    let script = [0u32; 1];
+    let mut log = [0u32; 40];
+    let mut long = [0u8; 513];
+    let mut none = [0u8; 0];
+    let mut one = [0u8; 1];
+    text(b"budget of 8001\n");
+    result(exchange_u8(Lpspi::new(), &mut long, 8001, &script, &mut log));
+    text(b"log of 40 for a budget of 21\n");
+    result(exchange_u8(Lpspi::new(), &mut long, 21, &script, &mut log));
+    text(b"513 bytes\n");
+    result(exchange_u8(Lpspi::new(), &mut long, 20, &script, &mut log));
+    text(b"no bytes\n");
+    result(exchange_u8(Lpspi::new(), &mut none, 20, &script, &mut log));
+    text(b"a transmit error before the command\n");
+    let script = [0x800u32];
+    let r = exchange_u8(Lpspi::new(), &mut one, 20, &script, &mut log);
+    accesses(&log, r.accesses);
+    result(r);
+}
+
+fn show_flush() {
+    text(b"flush, busy once\n");
+    let script = [0x0100_0000u32, 0, 0x404, 0];
+    let mut log = [0u32; 10];
+    let r = flush(Lpspi::new(), 5, &script, &mut log);
+    accesses(&log, r.accesses);
+    result(r);
+}
+
+fn main() {
+    show_example();
+    text(b"a receive error after the command\n");
+    show_recovery(40);
+    text(b"the same, stopped inside the recovery\n");
+    show_recovery(20);
+    show_in_place();
+    show_halves();
+    show_one_way();
+    show_refusals();
+    show_flush();
+}

@@ -1,0 +1,9 @@
+pub mod RunLaws
+pub mod RunDepends
+pub mod RunUnlimited
+pub mod Unlimited
+pub mod Places
+pub mod Bill
+pub mod DriveLaws
+mod FlushLaws
+mod TurnLaws

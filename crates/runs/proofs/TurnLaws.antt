@@ -1,0 +1,263 @@
+-- Whole turns stay with the run: the three reads of a poll, said once over the phase that holds the poll, and the access after it.
+-- Assumes nothing.
+use Prim.Native.Nat.{ℕ, suc, _+_, _*_, _<_, _≤_}
+use mathlib.Core.Bool.{Bool, true, false, cond, not}
+use mathlib.Core.List.{List}
+use mathlib.Core.Path.{_≡_, refl, sym, ap, ap₂, _∙_, subst}
+use native.Mathlib.Nat.{add-zero}
+use native.Mathlib.Omega.{arith}
+use lib.Dec.{ltb}
+use lib.ListN.{length, getD, set, length-set}
+use borrow.Author.Tests.{lt-leb, lt-ltb, ltb-true}
+use Rattle.manual.specs.declared.Register.{Register}
+use Rattle.manual.specs.declared.Register.the-variants.{SR, PARAM, FSR, TCR, TDR, RDR}
+use Rattle.manual.specs.Manual.{offsetOf}
+use Rattle.words.specs.declared.transaction.Direction.{Direction}
+use Rattle.words.specs.declared.transaction.Direction.the-variants.{Tx, Rx}
+use Rattle.machine.specs.declared.access.Access.the-variants.{Read, Write, Send as SendWord, Receive as ReceiveWord}
+use Rattle.machine.specs.declared.driver.Lpspi.{Lpspi}
+use Rattle.machine.specs.declared.poll.Poll.{Poll}
+use Rattle.machine.specs.declared.poll.Poll.the-variants.{Status, Sizes, Counts}
+use Rattle.machine.specs.declared.reset.Reset.{Reset}
+use Rattle.machine.specs.declared.transfer.Phase.{Phase}
+use Rattle.machine.specs.declared.transfer.Phase.the-variants.{Space, Command, Sending, Send, Receiving, Receive, Ended}
+use Rattle.machine.specs.declared.transfer.Work.{Work}
+use Rattle.machine.specs.declared.transfer.Transfer.{Transfer}
+use Rattle.machine.specs.Poll.{pollAccess, failed, ready}
+use Rattle.machine.specs.Transfer.{at, worked, turnAt, turnOf, sendTurn, receiveTurn, startTransfer, dueAccess, resumed}
+use Rattle.runs.specs.declared.drive.Frame.{Frame}
+use Rattle.runs.specs.declared.drive.Spot.{Spot}
+use Rattle.runs.specs.declared.turns.Count.{Count}
+use Rattle.runs.specs.declared.turns.Turns.{Turns}
+use Rattle.runs.specs.declared.turns.Look.{Look}
+use Rattle.runs.specs.declared.turns.Spaced.{Spaced}
+use Rattle.runs.specs.declared.turns.Turn.{Turn}
+use Rattle.runs.specs.declared.turns.Turn.the-variants.{Made}
+use Rattle.runs.specs.Run.{put}
+use Rattle.runs.specs.Drive.{wordIn, oneMore, Stands}
+use Rattle.runs.specs.Turns.{spot, putPoll, Whole, Looked, otherSide, hasMore, dueSide, Within, Onward, Turned, Waited}
+use Rattle.runs.proofs.DriveLaws.{stands-next, stands-start}
+
+length-put : (log : List ℕ) (made at v : ℕ) → length (put log made at v) ≡ length log
+length-put log made at v = length-set (set log (2 * made) at) (2 * made + 1) v ∙ length-set log (2 * made) at
+
+-- the turn of a side with words left is its poll
+sends : (w : Work) → ltb (w .sent) (w .send) ≡ true → sendTurn w ≡ Sending Status
+sends w e = rw e
+
+receives : (w : Work) → ltb (w .received) (w .receive) ≡ true → receiveTurn w ≡ Receiving Status
+receives w e = rw e
+
+module _ (f : Frame) (script send old olds : List ℕ) (m : Transfer) where
+  -- ONE READ
+  stands-read : (u u′ : Transfer) (g : Register) (made used made′ used′ got : ℕ) (log words : List ℕ) → Stands f script send old olds m u (spot made used got) log words
+      → dueAccess u ≡ Read g → used < length script → 2 * made + 1 < length old → made′ ≡ made + 1 → used′ ≡ used + 1 → resumed u (getD script used 0) ≡ u′
+      → Stands f script send old olds m u′ (spot made′ used′ got) (put log made (offsetOf g) (getD script used 0)) words
+  stands-read u u′ g made used made′ used′ got log words h e l r em es n =
+      stands-next f script send old olds m u (spot made used got) log words h (Read g) (getD script used 0) e (lt-leb (length script) used l) refl
+      u′ (spot made′ used′ got) (put log made (offsetOf g) (getD script used 0)) words r (sym n) em es refl (length-put log made (offsetOf g) (getD script used 0)) refl refl
+
+  -- THE THREE READS OF A POLL
+  stands-poll : (p : Poll → Phase) (w : Work) (r : Reset) (u : Transfer) (made used got : ℕ) (log words : List ℕ) → Stands f script send old olds m (at (p Status) w r) (spot made used got) log words
+      → used + 3 ≤ length script → 2 * (made + 3) ≤ length old → ((q : Poll) → dueAccess (at (p q) w r) ≡ pollAccess q)
+      → resumed (at (p Status) w r) (getD script used 0) ≡ at (p Sizes) w r
+      → resumed (at (p Sizes) w r) (getD script (used + 1) 0) ≡ at (p (Counts (getD script (used + 1) 0))) w r
+      → resumed (at (p (Counts (getD script (used + 1) 0))) w r) (getD script (used + 2) 0) ≡ u
+      → Stands f script send old olds m u (spot (made + 3) (used + 3) got) (putPoll log made script used) words
+  stands-poll p w r u made used got log words h l room due r₀ r₁ r₂ =
+      let param = getD script (used + 1) 0 in
+      let log₁ = put log made (offsetOf SR) (getD script used 0) in
+      let log₂ = put log₁ (made + 1) (offsetOf PARAM) param in
+      let h₁ = stands-read (at (p Status) w r) (at (p Sizes) w r) SR made used (made + 1) (used + 1) got log words h (due Status) (omega arith) (omega arith) refl refl r₀ in
+      let h₂ = stands-read (at (p Sizes) w r) (at (p (Counts param)) w r) PARAM (made + 1) (used + 1) (made + 2) (used + 2) got log₁ words h₁ (due Sizes) (omega arith) (omega arith) (omega arith) (omega arith) r₁ in
+      stands-read (at (p (Counts param)) w r) u FSR (made + 2) (used + 2) (made + 3) (used + 3) got log₂ words h₂ (due (Counts param)) (omega arith) (omega arith) (omega arith) (omega arith) r₂
+
+  module _ (budget made used got : ℕ) (log log′ words : List ℕ) (wide : 2 * budget ≤ length log) where
+    -- in one of the three places, with what follows it
+    module _ (d : Direction) (p : Poll → Phase) (w : Work) (r : Reset) (is : Bool) (whole : Whole d made used budget script log log′ is)
+        (h : Stands f script send old olds m (at (p Status) w r) (spot made used got) log words) where
+      polled : (u : Transfer) → ((q : Poll) → dueAccess (at (p q) w r) ≡ pollAccess q)
+          → resumed (at (p Status) w r) (getD script used 0) ≡ at (p Sizes) w r
+          → resumed (at (p Sizes) w r) (getD script (used + 1) 0) ≡ at (p (Counts (getD script (used + 1) 0))) w r
+          → resumed (at (p (Counts (getD script (used + 1) 0))) w r) (getD script (used + 2) 0) ≡ u
+          → Stands f script send old olds m u (spot (made + 3) (used + 3) got) log′ words
+      polled u due r₀ r₁ r₂ =
+          subst (λ (l : List ℕ). Stands f script send old olds m u (spot (made + 3) (used + 3) got) l words) (sym (whole .logged))
+          (stands-poll p w r u made used got log words h (omega (arith, whole .answers)) (omega (arith, whole .room, h .size)) due r₀ r₁ r₂)
+
+    pub space-polled : (w : Work) (r : Reset) (is : Bool) → Whole Tx made used budget script log log′ is → Stands f script send old olds m (at (Space Status) w r) (spot made used got) log words
+        → Stands f script send old olds m (at (cond is Command (Space Status)) w r) (spot (made + 3) (used + 3) got) log′ words
+    unfolding dueAccess resumed
+    space-polled w r true whole h = polled Tx Space w r true whole h (at Command w r) (λ q. refl) (rw (whole .clear)) refl (rw (whole .shown))
+    space-polled w r false whole h = polled Tx Space w r false whole h (at (Space Status) w r) (λ q. refl) (rw (whole .clear)) refl (rw (whole .shown))
+
+    sending-polled : (w : Work) (r : Reset) (is : Bool) → Whole Tx made used budget script log log′ is → Stands f script send old olds m (at (Sending Status) w r) (spot made used got) log words
+        → Stands f script send old olds m (at (cond is Send (receiveTurn w)) w r) (spot (made + 3) (used + 3) got) log′ words
+    unfolding dueAccess resumed
+    sending-polled w r true whole h = polled Tx Sending w r true whole h (at Send w r) (λ q. refl) (rw (whole .clear)) refl (rw (whole .shown))
+    sending-polled w r false whole h = polled Tx Sending w r false whole h (at (receiveTurn w) w r) (λ q. refl) (rw (whole .clear)) refl (rw (whole .shown))
+
+    receiving-polled : (w : Work) (r : Reset) (is : Bool) → Whole Rx made used budget script log log′ is → Stands f script send old olds m (at (Receiving Status) w r) (spot made used got) log words
+        → Stands f script send old olds m (at (cond is Receive (sendTurn w)) w r) (spot (made + 3) (used + 3) got) log′ words
+    unfolding dueAccess resumed
+    receiving-polled w r true whole h = polled Rx Receiving w r true whole h (at Receive w r) (λ q. refl) (rw (whole .clear)) refl (rw (whole .shown))
+    receiving-polled w r false whole h = polled Rx Receiving w r false whole h (at (sendTurn w) w r) (λ q. refl) (rw (whole .clear)) refl (rw (whole .shown))
+
+    -- THE COMMAND
+    pub space-commands : (w : Work) (r : Reset) (log″ : List ℕ) → Whole Tx made used budget script log log′ true → log″ ≡ put log′ (made + 3) (0x1000 + offsetOf TCR) (w .command)
+        → Stands f script send old olds m (at (Space Status) w r) (spot made used got) log words
+        → Stands f script send old olds m (at (sendTurn w) w r) (spot (made + 4) (used + 3) got) log″ words
+    unfolding dueAccess resumed
+    space-commands w r log″ whole el h =
+        stands-next f script send old olds m (at Command w r) (spot (made + 3) (used + 3) got) log′ words (space-polled w r true whole h) (Write TCR (w .command)) (getD script (used + 3) 0) refl refl refl
+        (at (sendTurn w) w r) (spot (made + 4) (used + 3) got) log″ words (omega (arith, whole .room, h .size)) refl (omega arith) (sym (add-zero (used + 3))) refl
+        (ap length el ∙ length-put log′ (made + 3) (0x1000 + offsetOf TCR) (w .command)) el refl
+
+  -- THE TURNS
+  module _ (n : Count) (en : m .work .send ≡ n .send) (er : m .work .receive ≡ n .receive) (budget made used got sent : ℕ) (log log′ words : List ℕ) (wide : 2 * budget ≤ length log) where
+    abbrev w : Work
+    w = worked sent got (m .work)
+
+    abbrev r : Reset
+    r = m .reset
+
+    more-to-send : ltb sent (n .send) ≡ true → ltb sent (m .work .send) ≡ true
+    more-to-send e = ap (ltb sent) en ∙ e
+
+    more-to-receive : ltb got (n .receive) ≡ true → ltb got (m .work .receive) ≡ true
+    more-to-receive e = ap (ltb got) er ∙ e
+
+    at-sending : ltb sent (n .send) ≡ true → Stands f script send old olds m (turnAt Tx sent got m) (spot made used got) log words
+        → Stands f script send old olds m (at (Sending Status) w r) (spot made used got) log words
+    at-sending e h = subst (λ (p : Phase). Stands f script send old olds m (at p w r) (spot made used got) log words) (sends w (more-to-send e)) h
+
+    at-receiving : ltb got (n .receive) ≡ true → Stands f script send old olds m (turnAt Rx sent got m) (spot made used got) log words
+        → Stands f script send old olds m (at (Receiving Status) w r) (spot made used got) log words
+    at-receiving e h = subst (λ (p : Phase). Stands f script send old olds m (at p w r) (spot made used got) log words) (receives w (more-to-receive e)) h
+
+    -- a poll that is not ready
+    pub turn-waits : (d : Direction) → hasMore d n sent got ≡ true → Whole d made used budget script log log′ false
+        → Stands f script send old olds m (turnAt d sent got m) (spot made used got) log words
+        → Stands f script send old olds m (turnAt (otherSide d) sent got m) (spot (made + 3) (used + 3) got) log′ words
+    turn-waits Tx e whole h = sending-polled budget made used got log log′ words wide w r false whole (at-sending e h)
+    turn-waits Rx e whole h = receiving-polled budget made used got log log′ words wide w r false whole (at-receiving e h)
+
+    -- a word is sent
+    pub turn-sends : (log″ : List ℕ) → ltb sent (n .send) ≡ true → Whole Tx made used budget script log log′ true
+        → log″ ≡ put log′ (made + 3) (0x1000 + offsetOf TDR) (wordIn f send words got sent) → Stands f script send old olds m (turnAt Tx sent got m) (spot made used got) log words
+        → Stands f script send old olds m (turnAt Tx (sent + 1) got m) (spot (made + 4) (used + 3) got) log″ words
+    unfolding dueAccess resumed
+    turn-sends log″ e whole el h =
+        let h₁ = sending-polled budget made used got log log′ words wide w r true whole (at-sending e h) in
+        let one : sent + 1 ≡ cond (ltb sent (m .work .send)) (sent + 1) sent = rw (more-to-send e) in
+        stands-next f script send old olds m (at Send w r) (spot (made + 3) (used + 3) got) log′ words h₁ (SendWord sent) (getD script (used + 3) 0) refl refl refl
+        (turnAt Tx (sent + 1) got m) (spot (made + 4) (used + 3) got) log″ words (omega (arith, whole .room, h .size))
+        (ap (λ (x : ℕ). turnAt Tx x got m) one) (omega arith) (sym (add-zero (used + 3))) refl
+        (ap length el ∙ length-put log′ (made + 3) (0x1000 + offsetOf TDR) (wordIn f send words got sent)) el refl
+
+    -- a word is received
+    pub turn-receives : (log″ words′ : List ℕ) → ltb got (n .receive) ≡ true → got < length words → Whole Rx made used budget script log log′ true
+        → log″ ≡ put log′ (made + 3) (offsetOf RDR) (getD script (used + 3) 0) → words′ ≡ set words got (getD script (used + 3) 0)
+        → Stands f script send old olds m (turnAt Rx sent got m) (spot made used got) log words
+        → Stands f script send old olds m (turnAt Rx sent (got + 1) m) (spot (made + 4) (used + 4) (got + 1)) log″ words′
+    unfolding dueAccess resumed
+    turn-receives log″ words′ e place whole el ew h =
+        let h₁ = receiving-polled budget made used got log log′ words wide w r true whole (at-receiving e h) in
+        let one : got + 1 ≡ cond (ltb got (m .work .receive)) (got + 1) got = rw (more-to-receive e) in
+        stands-next f script send old olds m (at Receive w r) (spot (made + 3) (used + 3) got) log′ words h₁ (ReceiveWord got) (getD script (used + 3) 0) refl (lt-leb (length script) (used + 3) (omega (arith, whole .answers))) refl
+        (turnAt Rx sent (got + 1) m) (spot (made + 4) (used + 4) (got + 1)) log″ words′ (omega (arith, whole .room, h .size))
+        (ap (λ (x : ℕ). turnAt Rx sent x m) one) (omega arith) (omega arith) (rw (lt-ltb got (length words) place))
+        (ap length el ∙ length-put log′ (made + 3) (offsetOf RDR) (getD script (used + 3) 0)) el ew
+
+    -- a side that has ended is passed over
+    pub turn-passes : (d : Direction) → turnAt d sent got m ≡ turnAt (dueSide d n sent got) sent got m
+    turn-passes Tx = by-test (ltb sent (n .send)) refl
+      where
+        by-test : (b : Bool) → ltb sent (n .send) ≡ b → turnAt Tx sent got m ≡ turnAt (cond b Tx Rx) sent got m
+        by-test true e = refl
+        by-test false e = rw (ap (ltb sent) en ∙ e)
+    turn-passes Rx = by-test (ltb got (n .receive)) refl
+      where
+        by-test : (b : Bool) → ltb got (n .receive) ≡ b → turnAt Rx sent got m ≡ turnAt (cond b Rx Tx) sent got m
+        by-test true e = refl
+        by-test false e = rw (ap (ltb got) er ∙ e)
+
+-- what a turn promises, from the poll and the callee that made it
+module _ (f : Frame) (script send : List ℕ) (n : Count) (budget : ℕ) (t : Turns) (log log′ words : List ℕ) (wide : 2 * budget ≤ length log) (in′ : Within budget (length words) t) where
+  pub made-waits : hasMore (t .side) n (t .sent) (t .spot .received) ≡ true → Whole (t .side) (t .spot .made) (t .spot .used) budget script log log′ false
+      → Turned f script send n budget t log words log′ words (Made (record { side = otherSide (t .side); sent = t .sent; spot = spot (t .spot .made + 3) (t .spot .used + 3) (t .spot .received) }))
+  made-waits e whole = (
+    omega arith,
+    record { made = omega (arith, whole .room); used = omega (arith, in′ .used); sent = omega (arith, in′ .sent); received = in′ .received },
+    λ m old olds en er h. turn-waits f script send old olds m n en er budget (t .spot .made) (t .spot .used) (t .spot .received) (t .sent) log log′ words wide (t .side) e whole h,
+  )
+
+  pub made-sends : (log″ : List ℕ) → t .side ≡ Tx → ltb (t .sent) (n .send) ≡ true → Whole Tx (t .spot .made) (t .spot .used) budget script log log′ true
+      → log″ ≡ put log′ (t .spot .made + 3) (0x1000 + offsetOf TDR) (wordIn f send words (t .spot .received) (t .sent))
+      → Turned f script send n budget t log words log″ words (Made (record { side = t .side; sent = t .sent + 1; spot = spot (t .spot .made + 4) (t .spot .used + 3) (t .spot .received) }))
+  made-sends log″ es e whole el = (
+    omega arith,
+    record { made = omega (arith, whole .room); used = omega (arith, in′ .used); sent = omega (arith, in′ .sent); received = in′ .received },
+    λ m old olds en er h.
+        subst (λ (d : Direction). Stands f script send old olds m (turnAt d (t .sent + 1) (t .spot .received) m) (spot (t .spot .made + 4) (t .spot .used + 3) (t .spot .received)) log″ words) (sym es)
+        (turn-sends f script send old olds m n en er budget (t .spot .made) (t .spot .used) (t .spot .received) (t .sent) log log′ words wide log″ e whole el
+        (subst (λ (d : Direction). Stands f script send old olds m (turnAt d (t .sent) (t .spot .received) m) (t .spot) log words) es h)),
+  )
+
+  pub made-receives : (log″ words′ : List ℕ) → t .side ≡ Rx → ltb (t .spot .received) (n .receive) ≡ true → n .receive ≤ length words → Whole Rx (t .spot .made) (t .spot .used) budget script log log′ true
+      → log″ ≡ put log′ (t .spot .made + 3) (offsetOf RDR) (getD script (t .spot .used + 3) 0) → words′ ≡ set words (t .spot .received) (getD script (t .spot .used + 3) 0)
+      → Turned f script send n budget t log words log″ words′ (Made (record { side = t .side; sent = t .sent; spot = spot (t .spot .made + 4) (t .spot .used + 4) (oneMore (t .spot .received) (length words)) }))
+  made-receives log″ words′ es e places whole el ew =
+      let got = t .spot .received in
+      let place : got < length words = omega (arith, ltb-true got (n .receive) e) in
+      let one : oneMore got (length words) ≡ got + 1 = rw (lt-ltb got (length words) place) in
+      rw one (
+        omega arith,
+        record { made = omega (arith, whole .room); used = omega (arith, in′ .used); sent = omega (arith, in′ .sent); received = omega (arith, place) },
+        λ m old olds en er h.
+            subst (λ (d : Direction). Stands f script send old olds m (turnAt d (t .sent) (got + 1) m) (spot (t .spot .made + 4) (t .spot .used + 4) (got + 1)) log″ words′) (sym es)
+            (turn-receives f script send old olds m n en er budget (t .spot .made) (t .spot .used) got (t .sent) log log′ words wide log″ words′ e place whole el ew
+            (subst (λ (d : Direction). Stands f script send old olds m (turnAt d (t .sent) got m) (t .spot) log words) es h)),
+      )
+
+-- from turn to turn
+module _ (f : Frame) (script send : List ℕ) (n : Count) where
+  pub onward-passed : (t u v : Turns) (log₀ words₀ log words : List ℕ) → v ≡ record { side = dueSide (u .side) n (u .sent) (u .spot .received); sent = u .sent; spot = u .spot }
+      → Onward f script send n t log₀ words₀ u log words → Onward f script send n t log₀ words₀ v log words
+  onward-passed t u v log₀ words₀ log words e k =
+      subst (λ (x : Turns). Onward f script send n t log₀ words₀ x log words) (sym e)
+      (λ m old olds en er h.
+      subst (λ (x : Transfer). Stands f script send old olds m x (u .spot) log words)
+      (turn-passes f script send old olds m n en er 0 0 0 (u .spot .received) (u .sent) log log words (omega arith) (u .side)) (k m old olds en er h))
+
+pub within-passed : (n : Count) (budget places : ℕ) (u v : Turns) → v ≡ record { side = dueSide (u .side) n (u .sent) (u .spot .received); sent = u .sent; spot = u .spot }
+    → Within budget places u → Within budget places v
+within-passed n budget places u v e h =
+    subst (Within budget places) (sym e) (record { made = h .made; used = h .used; sent = h .sent; received = h .received })
+
+pub as-look : (d : Direction) (made used budget : ℕ) (script log log′ : List ℕ) (r r′ : Look) → r ≡ r′ → Looked d made used budget script log log′ r → Looked d made used budget script log log′ r′
+as-look d made used budget script log log′ r r′ e h = subst (Looked d made used budget script log log′) e h
+
+pub not-false : (b : Bool) → not b ≡ false → b ≡ true
+not-false true e = refl
+not-false false e = cc
+
+pub as-turn : (f : Frame) (script send : List ℕ) (n : Count) (budget : ℕ) (t : Turns) (log words log′ words′ : List ℕ) (r r′ : Turn) → r ≡ r′
+    → Turned f script send n budget t log words log′ words′ r → Turned f script send n budget t log words log′ words′ r′
+as-turn f script send n budget t log words log′ words′ r r′ e h = subst (Turned f script send n budget t log words log′ words′) e h
+
+-- from the start to the first turn
+module _ (f : Frame) (script send words log log′ : List ℕ) (d : Lpspi) (command n m : ℕ) (r : Spaced) (waited : Waited command script (spot 0 0 0) log r log′) where
+  abbrev begins : Transfer
+  begins = startTransfer d command n m
+
+  waited-from-start : Stands f script send log words begins (cond (r .commanded) (turnAt Tx 0 0 begins) begins) (r .spot) log′ words
+  waited-from-start = waited f send words d n m log words (stands-start f script send log words begins)
+
+  pub stands-commanded : r .commanded ≡ true → r .spot .received ≡ 0 → Stands f script send log words begins (turnAt Tx 0 (r .spot .received) begins) (r .spot) log′ words
+  stands-commanded e z =
+      subst (λ (x : ℕ). Stands f script send log words begins (turnAt Tx 0 x begins) (r .spot) log′ words) (sym z)
+      (subst (λ (b : Bool). Stands f script send log words begins (cond b (turnAt Tx 0 0 begins) begins) (r .spot) log′ words) e waited-from-start)
+
+  pub stands-uncommanded : r .commanded ≡ false → Stands f script send log words begins begins (r .spot) log′ words
+  stands-uncommanded e = subst (λ (b : Bool). Stands f script send log words begins (cond b (turnAt Tx 0 0 begins) begins) (r .spot) log′ words) e waited-from-start

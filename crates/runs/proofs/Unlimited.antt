@@ -1,0 +1,164 @@
+-- How many accesses are enough for a transfer and for a flush, whatever the script: from then on the run is the one with no limit on accesses.
+-- Assumes nothing.
+use Prim.Native.Nat.{ℕ, zero, suc, _+_, _*_, _<_, _≤_, max}
+use mathlib.Core.Bool.{Bool, true, false, cond}
+use mathlib.Core.List.{List, [], _∷_}
+use mathlib.Core.Path.{_≡_, refl, ap}
+use native.Mathlib.Numerals.{add-one}
+use native.Mathlib.Omega.{arith}
+use lib.Dec.{ltb}
+use lib.ListN.{length, getD, drop}
+use borrow.Author.Tests.{leb-false}
+use Rattle.words.specs.declared.transaction.Direction.{Direction}
+use Rattle.words.specs.declared.transaction.LpspiError.the-variants.{Fifo}
+use Rattle.machine.specs.declared.access.Ending.the-variants.{Ok, Err}
+use Rattle.machine.specs.declared.flush.Flush.{Flush}
+use Rattle.machine.specs.declared.flush.Flush.the-variants.{Status, Sizes, Counts, Ended as FlushEnded}
+use Rattle.machine.specs.declared.poll.Poll.the-variants.{Status as PollStatus, Sizes as PollSizes, Counts as PollCounts}
+use Rattle.machine.specs.declared.reset.Move.{Move}
+use Rattle.machine.specs.declared.reset.Move.the-variants.{Keep, KeepEnabled, Look, Wait, WriteCr, Put, ClearErrors}
+use Rattle.machine.specs.declared.reset.Reset.{Reset}
+use Rattle.machine.specs.declared.transfer.Phase.{Phase}
+use Rattle.machine.specs.declared.transfer.Phase.the-variants.{Space, Command, Sending, Send, Receiving, Receive, Recovery, Ended}
+use Rattle.machine.specs.declared.transfer.Work.{Work}
+use Rattle.machine.specs.declared.transfer.Transfer.{Transfer}
+use Rattle.machine.specs.Flush.{flushAccess, flushed}
+use Rattle.machine.specs.Reset.{recovery, moveAt, moveAccess, moved, onward, resetAfter, resetDone}
+use Rattle.machine.specs.Transfer.{at, sendTurn, oneSent, afterRecovery, dueAccess, resumed}
+use Rattle.runs.specs.Run.{State, ended, usesOf, run}
+use Rattle.runs.specs.Unlimited.{Unlimited}
+use Rattle.runs.proofs.RunUnlimited.{run-unlimited}
+
+-- THE RECOVERY'S TABLE
+
+abbrev writes : Move → Bool
+writes (Keep k) = false
+writes KeepEnabled = false
+writes Look = false
+writes Wait = false
+writes (WriteCr c) = true
+writes (Put k) = true
+writes ClearErrors = true
+
+-- the writes before the next read
+abbrev leading : List Move → ℕ
+leading [] = 0
+leading (m ∷ l) = cond (writes m) (suc (leading l)) 0
+
+-- the most writes in a row
+abbrev mostLeading : List Move → ℕ
+mostLeading [] = 0
+mostLeading (m ∷ l) = max (leading (m ∷ l)) (mostLeading l)
+
+leading-most : (l : List Move) (i : ℕ) → leading (drop i l) ≤ mostLeading l
+leading-most [] zero = omega arith
+leading-most [] (suc i) = omega arith
+leading-most (m ∷ l) zero = omega arith
+leading-most (m ∷ l) (suc i) = omega (arith, leading-most l i)
+
+recovery-leading : (i : ℕ) → leading (drop i recovery) ≤ 9
+recovery-leading i = leading-most recovery i
+
+-- at a write there is one more before the next read than after it
+leading-next : (l : List Move) (i : ℕ) → i < length l → writes (getD l i ClearErrors) ≡ true → leading (drop i l) ≡ suc (leading (drop (suc i) l))
+leading-next [] i h e = absurd (omega arith)
+leading-next (m ∷ l) zero h e = rw e
+leading-next (m ∷ l) (suc i) h e = leading-next l i (omega arith) e
+
+-- THE WRITES OF A TRANSFER THAT ARE DUE IN A ROW
+
+abbrev pendingIn : Phase → ℕ → ℕ
+pendingIn (Space p) place = 0
+pendingIn Command place = 1
+pendingIn (Sending p) place = 0
+pendingIn Send place = 1
+pendingIn (Receiving p) place = 0
+pendingIn Receive place = 0
+pendingIn (Recovery d) place = 1 + leading (drop place recovery)
+pendingIn (Ended e) place = 0
+
+pending : Transfer → ℕ
+pending t = pendingIn (t .phase) (t .reset .place)
+
+pending-most : (p : Phase) (place : ℕ) → pendingIn p place ≤ 10
+pending-most (Space p) place = omega arith
+pending-most Command place = omega arith
+pending-most (Sending p) place = omega arith
+pending-most Send place = omega arith
+pending-most (Receiving p) place = omega arith
+pending-most Receive place = omega arith
+pending-most (Recovery d) place = omega (arith, recovery-leading place)
+pending-most (Ended e) place = omega arith
+
+-- no write is due where a turn begins
+turn-reads : (w : Work) (place : ℕ) → pendingIn (sendTurn w) place ≡ 0
+turn-reads w place = by-test (ltb (w .sent) (w .send)) (ltb (w .received) (w .receive))
+  where
+    by-test : (t u : Bool) → pendingIn (cond t (Sending PollStatus) (cond u (Receiving PollStatus) (Ended Ok))) place ≡ 0
+    by-test true u = refl
+    by-test false true = refl
+    by-test false false = refl
+
+-- a write of the recovery
+recovery-write : (d : Direction) (r : Reset) → resetDone r ≡ false → writes (moveAt (r .place)) ≡ true
+    → pendingIn (afterRecovery d (onward r)) (r .place + 1) < 1 + leading (drop (r .place) recovery)
+recovery-write d r h e = by-test (resetDone (onward r))
+  where
+    by-test : (t : Bool) → pendingIn (cond t (Ended (Err (Fifo d))) (Recovery d)) (r .place + 1) < 1 + leading (drop (r .place) recovery)
+    by-test true = omega arith
+    by-test false =
+        let fact = leading-next recovery (r .place) (leb-false (length recovery) (r .place) h) e in
+        rw (add-one (r .place)) (omega (arith, fact))
+
+recovery-fewer : (m : Move) (d : Direction) (r : Reset) → moveAt (r .place) ≡ m → usesOf (moveAccess m r) ≡ 0
+    → pendingIn (afterRecovery d (resetAfter r 0)) (resetAfter r 0 .place) < 1 + leading (drop (r .place) recovery)
+recovery-fewer m d r em u = by-test (resetDone r) refl m em u
+  where
+    by-test : (t : Bool) → resetDone r ≡ t → (m : Move) → moveAt (r .place) ≡ m → usesOf (moveAccess m r) ≡ 0
+        → pendingIn (afterRecovery d (cond t r (moved (moveAt (r .place)) r 0))) (cond t r (moved (moveAt (r .place)) r 0) .place) < 1 + leading (drop (r .place) recovery)
+    by-test true t m em u = rw t (omega arith)
+    by-test false t (Keep k) em u = absurd (omega arith)
+    by-test false t KeepEnabled em u = absurd (omega arith)
+    by-test false t Look em u = absurd (omega arith)
+    by-test false t Wait em u = absurd (omega arith)
+    by-test false t (WriteCr c) em u = rw em (recovery-write d r t (ap writes em))
+    by-test false t (Put k) em u = rw em (recovery-write d r t (ap writes em))
+    by-test false t ClearErrors em u = rw em (recovery-write d r t (ap writes em))
+
+fewer : (p : Phase) (w : Work) (r : Reset) → ended (dueAccess (at p w r)) ≡ false → usesOf (dueAccess (at p w r)) ≡ 0 → pending (resumed (at p w r) 0) < pending (at p w r)
+unfolding dueAccess resumed pending
+fewer (Space PollStatus) w r e u = absurd (omega arith)
+fewer (Space PollSizes) w r e u = absurd (omega arith)
+fewer (Space (PollCounts x)) w r e u = absurd (omega arith)
+fewer Command w r e u = omega (arith, turn-reads w (r .place))
+fewer (Sending PollStatus) w r e u = absurd (omega arith)
+fewer (Sending PollSizes) w r e u = absurd (omega arith)
+fewer (Sending (PollCounts x)) w r e u = absurd (omega arith)
+fewer Send w r e u = omega (arith, turn-reads (oneSent w) (r .place))
+fewer (Receiving PollStatus) w r e u = absurd (omega arith)
+fewer (Receiving PollSizes) w r e u = absurd (omega arith)
+fewer (Receiving (PollCounts x)) w r e u = absurd (omega arith)
+fewer Receive w r e u = absurd (omega arith)
+fewer (Recovery d) w r e u = recovery-fewer (moveAt (r .place)) d r refl u
+fewer (Ended x) w r e u = absurd (let z : _≡_ {A = ℕ} 0 1 = cc in omega arith)
+
+-- 11 * (length script + 1) ACCESSES ARE ENOUGH FOR A TRANSFER, wherever it stands
+pub transfer-unlimited : (words : List ℕ → ℕ → ℕ) (script : List ℕ) (n : ℕ) (s : State Transfer) → 11 * (length script + 1) ≤ n
+    → Unlimited dueAccess resumed words script s (run dueAccess resumed words script n s)
+unfolding pending
+transfer-unlimited words script n s h =
+    run-unlimited dueAccess resumed words script pending 10 (λ (t : Transfer). pending-most (t .phase) (t .reset .place)) (λ (t : Transfer). fewer (t .phase) (t .work) (t .reset))
+    n s (omega (arith, pending-most (s .machine .phase) (s .machine .reset .place)))
+
+-- EVERY ACCESS OF A FLUSH IS A READ: length script are enough
+flush-reads : (f : Flush) → ended (flushAccess f) ≡ false → usesOf (flushAccess f) ≡ 0 → ⊥
+flush-reads Status e u = omega arith
+flush-reads Sizes e u = omega arith
+flush-reads Counts e u = omega arith
+flush-reads (FlushEnded x) e u = let z : _≡_ {A = ℕ} 0 1 = cc in omega arith
+
+pub flush-unlimited : (words : List ℕ → ℕ → ℕ) (script : List ℕ) (n : ℕ) (s : State Flush) → length script ≤ n
+    → Unlimited flushAccess flushed words script s (run flushAccess flushed words script n s)
+flush-unlimited words script n s h =
+    run-unlimited flushAccess flushed words script (λ (f : Flush). 0) 0 (λ (f : Flush). omega arith) (λ (f : Flush) e u. absurd (flush-reads f e u))
+    n s (omega arith)

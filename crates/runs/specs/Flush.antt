@@ -1,0 +1,37 @@
+-- `flush` as a run.
+-- Assumes nothing.
+use Prim.Native.Nat.{ℕ}
+use mathlib.Core.Bool.{cond}
+use mathlib.Core.List.{List, []}
+use lib.ListN.{length}
+use Rattle.machine.specs.declared.driver.Lpspi.{Lpspi}
+use Rattle.machine.specs.declared.flush.Flush.{Flush}
+use Rattle.machine.specs.declared.flush.Flush.the-variants.{Status}
+use Rattle.machine.specs.Flush.{flushAccess, flushed}
+use Rattle.runs.specs.declared.flush.Flushed.{Flushed}
+use Rattle.runs.specs.Run.{State, Left, left, limits, refused, run, start, endingOf, logOver, ran}
+
+-- a flush sends no word
+abbrev pub noWords : List ℕ → ℕ → ℕ
+noWords received i = 0
+
+abbrev pub flushStates : List ℕ → ℕ → State Flush
+flushStates script budget = run flushAccess flushed noWords script budget (start Status)
+
+pub record FlushLeft : Type 0 where
+  pub flushed : Flushed
+  pub log : List ℕ
+
+abbrev pub flushLeft : Flushed → List ℕ → FlushLeft
+flushLeft f log = record { flushed = f; log = log }
+
+-- the loop: the run with at most `budget` accesses (private contracts cite it)
+unfoldable pub flushLoop : List ℕ → ℕ → List ℕ → FlushLeft
+flushLoop script budget log =
+    let s = flushStates script budget in
+    flushLeft (record { ending = endingOf (flushAccess (s .machine)); accesses = length (s .log) }) (logOver log (s .log))
+
+-- the call: number 5, or the run; the driver value is as it was
+abbrev pub flushRun : Lpspi → ℕ → List ℕ → List ℕ → Left
+flushRun d budget script log =
+    cond (limits budget log) (refused d log) (ran flushAccess d log (flushStates script budget))

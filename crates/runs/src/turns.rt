@@ -1,0 +1,295 @@
+// Whole turns of a transfer: a poll's three reads and its word. A turn is made only if it certainly fits budget and script and shows no error;
+// all the rest is left to `drive`.
+ghost use mathlib.Core.Path.{_≡_};
+ghost use mathlib.Core.Bool.{true, not};
+ghost use mathlib.Core.List.{List};
+ghost use Prim.Native.Nat.{ℕ, _+_, _*_, _<_, _≤_};
+ghost use lib.ListN.{length, getD, set};
+ghost use Rattle.manual.specs.declared.Register.the-variants.{TDR, RDR};
+ghost use Rattle.manual.specs.Manual.{offsetOf};
+ghost use Rattle.runs.specs.Run.{put};
+ghost use Rattle.runs.specs.Drive.{wordIn, oneMore};
+ghost use Rattle.runs.specs.Turns.{spot, Looked, otherSide, hasMore, dueSide, Within, Onward, Turned, Waited};
+use crate::access::WRITE;
+use crate::drive::Frame;
+use crate::drive::Spot;
+use crate::drive::store;
+use crate::drive::word_in;
+use crate::log::put;
+use machine::poll::failed;
+use machine::poll::ready;
+use manual::Register;
+use words::transaction::Direction;
+
+// What a poll shows.
+pub(crate) enum Look {
+    // An error, or the turn does not certainly fit: nothing was done.
+    Rare,
+    Unready,
+    Ready,
+}
+
+// The FIFO words that a transfer sends and receives.
+pub struct Count {
+    pub send: usize,
+    pub receive: usize,
+}
+
+// Whose turn it is, and how far the transfer has come.
+pub(crate) struct Turns {
+    pub side: Direction,
+    pub sent: usize,
+    pub spot: Spot,
+}
+
+// A turn was made, or left to be made an access at a time.
+pub(crate) enum Turn {
+    Made(Turns),
+    Left,
+}
+
+// The command was sent, or is left to be sent an access at a time.
+pub(crate) struct Spaced {
+    pub commanded: bool,
+    pub spot: Spot,
+}
+
+fn poll(
+    side: Direction,
+    made: usize,
+    used: usize,
+    budget: usize,
+    script: &[u32],
+    log: &mut [u32],
+) -> Look
+    requires within { ⌜ made ≤ budget ⌝ }
+    requires room { ⌜ 2 * budget ≤ length (now log) ⌝ }
+    ensures { λ r. ⌜ Looked side made used budget (now (script .entry)) (now (log .entry)) (now (log .exit)) r ⌝ }
+{
+    if budget - made < 4 {
+        return Look::Rare;
+    }
+    if script.len() < 4 {
+        return Look::Rare;
+    }
+    if script.len() - 4 < used {
+        return Look::Rare;
+    }
+    let status = script[used];
+    if failed(side, status) {
+        return Look::Rare;
+    }
+    let param = script[used + 1];
+    let counts = script[used + 2];
+    put(log, made, Register::SR.offset(), status);
+    put(log, made + 1, Register::PARAM.offset(), param);
+    put(log, made + 2, Register::FSR.offset(), counts);
+    if ready(side, param, counts) {
+        return Look::Ready;
+    }
+    Look::Unready
+}
+
+fn other(side: Direction) -> Direction
+    ensures { λ r. ⌜ r ≡ otherSide side ⌝ }
+{
+    match side {
+        Direction::Tx => Direction::Rx,
+        Direction::Rx => Direction::Tx,
+    }
+}
+
+fn has_more(side: Direction, count: Count, sent: usize, received: usize) -> bool
+    ensures { λ r. ⌜ r ≡ hasMore side count sent received ⌝ }
+{
+    match side {
+        Direction::Tx => sent < count.send,
+        Direction::Rx => received < count.receive,
+    }
+}
+
+// A side that has ended is passed over.
+fn pass(t: Turns, count: Count) -> Turns
+    ensures { λ r. ⌜ r ≡ record { side = dueSide (t .side) count (t .sent) (t .spot .received); sent = t .sent; spot = t .spot } ⌝ }
+{
+    let side = t.side;
+    let s = t.spot;
+    if has_more(side, count, t.sent, s.received) {
+        return t;
+    }
+    Turns {
+        side: other(side),
+        sent: t.sent,
+        spot: s,
+    }
+}
+
+fn ended(t: Turns, count: Count) -> bool
+    ensures { λ r. ⌜ r ≡ not (hasMore (t .side) count (t .sent) (t .spot .received)) ⌝ }
+{
+    let side = t.side;
+    let s = t.spot;
+    if has_more(side, count, t.sent, s.received) {
+        return false;
+    }
+    true
+}
+
+// The word after a poll of the sending side.
+fn send_word(t: Turns, frame: Frame, log: &mut [u32], send: &[u32], words: &[u32]) -> Turns
+    requires { ⌜ (2 * (t .spot .made + 4) ≤ length (now log)) × (t .spot .used ≤ t .spot .made) × (t .sent ≤ t .spot .made) ⌝ }
+    ensures { λ r. ⌜ (r ≡ record { side = t .side; sent = t .sent + 1; spot = spot (t .spot .made + 4) (t .spot .used + 3) (t .spot .received) }) × (now (log .exit) ≡ put (now (log .entry)) (t .spot .made + 3) (0x1000 + offsetOf TDR) (wordIn frame (now (send .entry)) (now (words .entry)) (t .spot .received) (t .sent))) ⌝ }
+{
+    let s = t.spot;
+    let side = t.side;
+    let word = word_in(frame, send, words, s.received, t.sent);
+    put(log, s.made + 3, WRITE + Register::TDR.offset(), word);
+    Turns {
+        side,
+        sent: t.sent + 1,
+        spot: Spot {
+            made: s.made + 4,
+            used: s.used + 3,
+            received: s.received,
+        },
+    }
+}
+
+// The word after a poll of the receiving side.
+fn receive_word(t: Turns, script: &[u32], log: &mut [u32], words: &mut [u32]) -> Turns
+    requires { ⌜ (2 * (t .spot .made + 4) ≤ length (now log)) × (t .spot .used + 4 ≤ length (now script)) × (t .spot .used ≤ t .spot .made) ⌝ }
+    ensures { λ r. ⌜ (r ≡ record { side = t .side; sent = t .sent; spot = spot (t .spot .made + 4) (t .spot .used + 4) (oneMore (t .spot .received) (length (now (words .entry)))) }) × (now (log .exit) ≡ put (now (log .entry)) (t .spot .made + 3) (offsetOf RDR) (getD (now (script .entry)) (t .spot .used + 3) 0)) × (now (words .exit) ≡ set (now (words .entry)) (t .spot .received) (getD (now (script .entry)) (t .spot .used + 3) 0)) ⌝ }
+{
+    let s = t.spot;
+    let side = t.side;
+    let value = script[s.used + 3];
+    put(log, s.made + 3, Register::RDR.offset(), value);
+    let received = store(words, s.received, value);
+    Turns {
+        side,
+        sent: t.sent,
+        spot: Spot {
+            made: s.made + 4,
+            used: s.used + 4,
+            received,
+        },
+    }
+}
+
+// After a poll that was not ready it is the other side's turn.
+fn wait(t: Turns) -> Turns
+    requires { ⌜ (t .spot .made + 4 < 18446744073709551616) × (t .spot .used ≤ t .spot .made) ⌝ }
+    ensures { λ r. ⌜ r ≡ record { side = otherSide (t .side); sent = t .sent; spot = spot (t .spot .made + 3) (t .spot .used + 3) (t .spot .received) } ⌝ }
+{
+    let s = t.spot;
+    let side = t.side;
+    Turns {
+        side: other(side),
+        sent: t.sent,
+        spot: Spot {
+            made: s.made + 3,
+            used: s.used + 3,
+            received: s.received,
+        },
+    }
+}
+
+// The turn of a side that has words left.
+fn take_turn(
+    t: Turns,
+    count: Count,
+    frame: Frame,
+    budget: usize,
+    script: &[u32],
+    log: &mut [u32],
+    send: &[u32],
+    words: &mut [u32],
+) -> Turn
+    requires more { ⌜ hasMore (t .side) count (t .sent) (t .spot .received) ≡ true ⌝ }
+    requires within { ⌜ Within budget (length (now words)) t ⌝ }
+    requires room { ⌜ 2 * budget ≤ length (now log) ⌝ }
+    requires places { ⌜ count .receive ≤ length (now words) ⌝ }
+    ensures { λ r. ⌜ Turned frame (now (script .entry)) (now (send .entry)) count budget t (now (log .entry)) (now (words .entry)) (now (log .exit)) (now (words .exit)) r ⌝ }
+{
+    let side = t.side;
+    let s = t.spot;
+    match poll(side, s.made, s.used, budget, script, log) {
+        Look::Rare => Turn::Left,
+        Look::Unready => Turn::Made(wait(t)),
+        Look::Ready => match side {
+            Direction::Tx => Turn::Made(send_word(t, frame, log, send, words)),
+            Direction::Rx => Turn::Made(receive_word(t, script, log, words)),
+        },
+    }
+}
+
+// Both sides by turns, as long as whole turns can be made.
+pub(crate) fn take_turns(
+    first: Turns,
+    count: Count,
+    frame: Frame,
+    budget: usize,
+    script: &[u32],
+    log: &mut [u32],
+    send: &[u32],
+    words: &mut [u32],
+) -> Turns
+    requires within { ⌜ Within budget (length (now words)) first ⌝ }
+    requires room { ⌜ 2 * budget ≤ length (now log) ⌝ }
+    requires places { ⌜ count .receive ≤ length (now words) ⌝ }
+    ensures { λ r. ⌜ Within budget (length (now (words .entry))) r × Onward frame (now (script .entry)) (now (send .entry)) count first (now (log .entry)) (now (words .entry)) r (now (log .exit)) (now (words .exit)) ⌝ }
+{
+    let mut t = first;
+    loop {
+        t = pass(t, count);
+        if ended(t, count) {
+            return t;
+        }
+        match take_turn(t, count, frame, budget, script, log, send, words) {
+            Turn::Made(u) => {
+                t = u;
+            }
+            Turn::Left => {
+                return t;
+            }
+        }
+    }
+}
+
+// Polls for a place for the command, and the command.
+pub(crate) fn wait_for_space(command: u32, budget: usize, script: &[u32], log: &mut [u32]) -> Spaced
+    requires room { ⌜ 2 * budget ≤ length (now log) ⌝ }
+    ensures { λ r. ⌜ (r .spot .made ≤ budget) × (r .spot .used ≤ r .spot .made) × (r .spot .received ≡ 0) × Waited command (now (script .entry)) (spot 0 0 0) (now (log .entry)) r (now (log .exit)) ⌝ }
+{
+    let mut made: usize = 0;
+    let mut used: usize = 0;
+    loop {
+        match poll(Direction::Tx, made, used, budget, script, log) {
+            Look::Rare => {
+                return Spaced {
+                    commanded: false,
+                    spot: Spot {
+                        made,
+                        used,
+                        received: 0,
+                    },
+                };
+            }
+            Look::Unready => {
+                made += 3;
+                used += 3;
+            }
+            Look::Ready => {
+                put(log, made + 3, WRITE + Register::TCR.offset(), command);
+                return Spaced {
+                    commanded: true,
+                    spot: Spot {
+                        made: made + 4,
+                        used: used + 3,
+                        received: 0,
+                    },
+                };
+            }
+        }
+    }
+}
