@@ -198,8 +198,10 @@ impl Mood {
 
     /// An answer that may be to any register.
     fn answer(&self, random: &mut Random) -> u32 {
-        // As SR no error, as PARAM much space, as FSR a word to receive.
-        let mut word = random.word() & !ERRORS | 0x0001_0020;
+        // As SR no error, as PARAM much space, as FSR words to receive; one bit
+        // makes the space, and one the words.
+        let mut word = random.word() & !(ERRORS | 0x001F_00E0);
+        word |= 1 << (5 + random.below(3)) | 1 << (16 + random.below(5));
         if random.chance(self.error) {
             word |= random.word() & ERRORS;
         }
@@ -207,8 +209,8 @@ impl Mood {
             word &= !0x001F_00FF;
         }
         if random.chance(self.tight) {
-            // TXFIFO or TXCOUNT is 0 to 3.
-            word &= !0x0000_00FC;
+            // TXFIFO or TXCOUNT is 0 to 31, or 0 to 3.
+            word &= if random.flag() { !0xE0 } else { !0xFC };
         }
         if random.chance(self.idle) {
             // Not busy, or TXCOUNT is 0.
