@@ -41,4 +41,50 @@ extern "C" {
         bytes: *mut u8,
         len: usize,
     );
+
+    #[allow(clippy::too_many_arguments)]
+    pub fn lpspi_exchange_separate_u8(
+        lsb: bool,
+        mode: u32,
+        pcs: u32,
+        read: *mut u8,
+        read_len: usize,
+        write: *const u8,
+        write_len: usize,
+        budget: usize,
+        script: *const u32,
+        script_len: usize,
+        log: *mut u32,
+        log_len: usize,
+        accesses: *mut usize,
+        answers: *mut usize,
+    ) -> u32;
+
+    #[allow(clippy::too_many_arguments)]
+    pub fn lpspi_exchange_separate_u32(
+        lsb: bool,
+        mode: u32,
+        pcs: u32,
+        read: *mut u32,
+        read_len: usize,
+        write: *const u32,
+        write_len: usize,
+        budget: usize,
+        script: *const u32,
+        script_len: usize,
+        log: *mut u32,
+        log_len: usize,
+        accesses: *mut usize,
+        answers: *mut usize,
+    ) -> u32;
+
+    pub fn lpspi_flush(
+        budget: usize,
+        script: *const u32,
+        script_len: usize,
+        log: *mut u32,
+        log_len: usize,
+        accesses: *mut usize,
+        answers: *mut usize,
+    ) -> u32;
 }

@@ -1,13 +1,17 @@
-//! Rust wrappers over the proved LPSPI core: commands, clocks and byte packing.
+//! Rust wrappers over the proved LPSPI core: commands, clocks, byte packing and
+//! runs.
 //!
 //! The core is the static library `libc_api.a`; see `build.rs`.
 #![warn(missing_docs)]
 
 mod ffi;
+pub mod original_runs;
 pub mod original_shape;
 pub mod raw;
 pub mod reference;
+mod run;
 
+pub use run::{exchange_separate_u32, exchange_separate_u8, flush, Driver, Run};
 use std::fmt;
 
 /// Order of the elements in a FIFO word, and of the bits on the wire.
@@ -56,22 +60,44 @@ pub struct Command {
     pub pcs: u32,
 }
 
-/// A refusal. The discriminant is the number in the scope document.
+/// Data direction.
 #[derive(Debug, Clone, Copy, PartialEq, Eq)]
-#[repr(u32)]
+pub enum Direction {
+    /// Transmit.
+    Tx,
+    /// Receive.
+    Rx,
+}
+
+/// Why a call was refused, or a run did not come to Ok.
+#[derive(Debug, Clone, Copy, PartialEq, Eq)]
 pub enum Error {
     /// The frame size is not accepted.
-    FrameSize = 1,
+    FrameSize,
+    /// FIFO error in the given direction.
+    Fifo(Direction),
+    /// The budget was used up, or a read found the script used up.
+    Stopped,
+    /// The budget is over 8,000, or the log is shorter than twice the budget.
+    Limits,
     /// The source clock or the wanted clock is 0.
-    ZeroClock = 6,
+    ZeroClock,
     /// More elements than a FIFO word holds.
-    TooManyElements = 8,
+    TooManyElements,
 }
 
 impl Error {
     /// The number in the scope document.
     pub const fn number(self) -> u32 {
-        self as u32
+        match self {
+            Self::FrameSize => 1,
+            Self::Fifo(Direction::Rx) => 2,
+            Self::Fifo(Direction::Tx) => 3,
+            Self::Stopped => 4,
+            Self::Limits => 5,
+            Self::ZeroClock => 6,
+            Self::TooManyElements => 8,
+        }
     }
 }
 
@@ -79,6 +105,10 @@ impl fmt::Display for Error {
     fn fmt(&self, f: &mut fmt::Formatter<'_>) -> fmt::Result {
         f.write_str(match self {
             Self::FrameSize => "frame size not accepted",
+            Self::Fifo(Direction::Rx) => "receive FIFO error",
+            Self::Fifo(Direction::Tx) => "transmit FIFO error",
+            Self::Stopped => "budget or script used up",
+            Self::Limits => "budget or log out of limits",
             Self::ZeroClock => "a clock is zero",
             Self::TooManyElements => "more elements than a word holds",
         })
@@ -95,9 +125,13 @@ fn answer<T>(number: u32, value: T) -> Result<T, Error> {
     match number {
         0 => Ok(value),
         1 => Err(Error::FrameSize),
+        2 => Err(Error::Fifo(Direction::Rx)),
+        3 => Err(Error::Fifo(Direction::Tx)),
+        4 => Err(Error::Stopped),
+        5 => Err(Error::Limits),
         6 => Err(Error::ZeroClock),
         8 => Err(Error::TooManyElements),
-        _ => panic!("result number {number} is not one of 0, 1, 6, 8"),
+        _ => panic!("result number {number} is not one of 0 to 6 and 8"),
     }
 }
 

@@ -8,7 +8,7 @@ use crate::BitOrder;
 use std::marker::PhantomData;
 
 /// An element of a transfer.
-trait Word: Copy {
+pub(crate) trait Word: Copy {
     /// Sent where the write buffer has no more.
     const DUMMY: Self;
     /// Joins the elements that `provider` gives into a FIFO word.
@@ -50,8 +50,20 @@ impl Word for u8 {
     }
 }
 
+impl Word for u32 {
+    const DUMMY: u32 = u32::MAX;
+
+    fn pack_word(_: BitOrder, mut provider: impl FnMut() -> Option<Self>) -> u32 {
+        provider().unwrap_or(0)
+    }
+
+    fn unpack_word(word: u32, _: BitOrder, _: usize, mut sink: impl FnMut(Self)) {
+        sink(word)
+    }
+}
+
 /// Elements to send: a buffer, then dummies.
-struct TransmitBuffer<'a, W> {
+pub(crate) struct TransmitBuffer<'a, W> {
     ptr: *const W,
     end: *const W,
     dummies: usize,
@@ -59,7 +71,7 @@ struct TransmitBuffer<'a, W> {
 }
 
 impl<'a, W: Word> TransmitBuffer<'a, W> {
-    fn with_dummies(buffer: &'a [W], dummies: usize) -> Self {
+    pub(crate) fn with_dummies(buffer: &'a [W], dummies: usize) -> Self {
         let range = buffer.as_ptr_range();
         Self {
             ptr: range.start,
@@ -86,13 +98,13 @@ impl<'a, W: Word> TransmitBuffer<'a, W> {
         })
     }
 
-    fn next_word(&mut self, order: BitOrder) -> u32 {
+    pub(crate) fn next_word(&mut self, order: BitOrder) -> u32 {
         W::pack_word(order, || self.next_read())
     }
 }
 
 /// Places for received elements: a buffer, then elements to discard.
-struct ReceiveBuffer<'a, W> {
+pub(crate) struct ReceiveBuffer<'a, W> {
     ptr: *mut W,
     end: *const W,
     discards: usize,
@@ -100,7 +112,7 @@ struct ReceiveBuffer<'a, W> {
 }
 
 impl<'a, W: Word> ReceiveBuffer<'a, W> {
-    fn with_discards(buffer: &'a mut [W], discards: usize) -> Self {
+    pub(crate) fn with_discards(buffer: &'a mut [W], discards: usize) -> Self {
         let range = buffer.as_mut_ptr_range();
         Self {
             ptr: range.start,
@@ -125,7 +137,7 @@ impl<'a, W: Word> ReceiveBuffer<'a, W> {
         unsafe { self.end.byte_offset_from(self.ptr) as usize }
     }
 
-    fn next_word(&mut self, order: BitOrder, word: u32) {
+    pub(crate) fn next_word(&mut self, order: BitOrder, word: u32) {
         let mut valid_bytes = self.bytes_left().min(size_of::<u32>());
         while valid_bytes < size_of::<u32>() && self.discards != 0 {
             valid_bytes += size_of::<W>();
@@ -191,6 +203,11 @@ impl Transaction {
         } else {
             Err(FrameSize)
         }
+    }
+
+    /// The word written to TCR.
+    pub const fn as_raw(self) -> u32 {
+        self.0
     }
 
     /// Clears a field and sets it to `value`.
@@ -304,7 +321,7 @@ pub fn command_word(
         .set_continuing(continuing)
         .set_mode(mode)
         .set_pcs(pcs);
-    Ok(transaction.0)
+    Ok(transaction.as_raw())
 }
 
 /// Entry: the CCR word. Both clocks must not be 0.

@@ -1,9 +1,10 @@
-//! Safe calls that keep the C form: a result number and an out-value.
+//! Safe calls that keep the C form: a result number and out-values.
 //!
 //! The number is 0 for Ok, else that of an [`Error`](crate::Error). On a
-//! refusal the out-value is as found, which the tests check here.
+//! refusal an out-word is as found, which the tests check here. A run always
+//! gives its accesses and answers.
 
-use crate::{ffi, BitOrder, Command};
+use crate::{ffi, BitOrder, Command, Driver};
 
 /// The TCR word of a command.
 #[inline]
@@ -74,6 +75,100 @@ pub fn unpack_words_u8(order: BitOrder, words: &[u32], total: usize, bytes: &mut
             total,
             bytes.as_mut_ptr(),
             bytes.len(),
+        )
+    }
+}
+
+/// Sends `write` and receives into `read`, of bytes.
+#[inline]
+#[allow(clippy::too_many_arguments)]
+pub fn exchange_separate_u8(
+    driver: Driver,
+    read: &mut [u8],
+    write: &[u8],
+    budget: usize,
+    script: &[u32],
+    log: &mut [u32],
+    accesses: &mut usize,
+    answers: &mut usize,
+) -> u32 {
+    // Safety: all slices are valid for their lengths, and neither they nor the
+    // two counts overlap.
+    unsafe {
+        ffi::lpspi_exchange_separate_u8(
+            driver.bit_order.is_lsb(),
+            driver.mode,
+            driver.pcs,
+            read.as_mut_ptr(),
+            read.len(),
+            write.as_ptr(),
+            write.len(),
+            budget,
+            script.as_ptr(),
+            script.len(),
+            log.as_mut_ptr(),
+            log.len(),
+            accesses,
+            answers,
+        )
+    }
+}
+
+/// Sends `write` and receives into `read`, of words.
+#[inline]
+#[allow(clippy::too_many_arguments)]
+pub fn exchange_separate_u32(
+    driver: Driver,
+    read: &mut [u32],
+    write: &[u32],
+    budget: usize,
+    script: &[u32],
+    log: &mut [u32],
+    accesses: &mut usize,
+    answers: &mut usize,
+) -> u32 {
+    // Safety: all slices are valid for their lengths, and neither they nor the
+    // two counts overlap.
+    unsafe {
+        ffi::lpspi_exchange_separate_u32(
+            driver.bit_order.is_lsb(),
+            driver.mode,
+            driver.pcs,
+            read.as_mut_ptr(),
+            read.len(),
+            write.as_ptr(),
+            write.len(),
+            budget,
+            script.as_ptr(),
+            script.len(),
+            log.as_mut_ptr(),
+            log.len(),
+            accesses,
+            answers,
+        )
+    }
+}
+
+/// Waits until all has been sent.
+#[inline]
+pub fn flush(
+    budget: usize,
+    script: &[u32],
+    log: &mut [u32],
+    accesses: &mut usize,
+    answers: &mut usize,
+) -> u32 {
+    // Safety: both slices are valid for their lengths, and neither they nor the
+    // two counts overlap.
+    unsafe {
+        ffi::lpspi_flush(
+            budget,
+            script.as_ptr(),
+            script.len(),
+            log.as_mut_ptr(),
+            log.len(),
+            accesses,
+            answers,
         )
     }
 }

@@ -3,7 +3,7 @@
 use lpspi_host::BitOrder::{Lsb, Msb};
 use lpspi_host::{
     clock, command, pack_u8, pack_words_u8, raw, unpack_u8, unpack_words_u8, BitOrder, Command,
-    Error,
+    Direction, Error,
 };
 
 /// A value that no call below gives.
@@ -19,6 +19,10 @@ fn sized(frame_size: u32) -> Command {
 #[test]
 fn error_numbers() {
     assert_eq!(Error::FrameSize.number(), 1);
+    assert_eq!(Error::Fifo(Direction::Rx).number(), 2);
+    assert_eq!(Error::Fifo(Direction::Tx).number(), 3);
+    assert_eq!(Error::Stopped.number(), 4);
+    assert_eq!(Error::Limits.number(), 5);
     assert_eq!(Error::ZeroClock.number(), 6);
     assert_eq!(Error::TooManyElements.number(), 8);
 }

@@ -3,16 +3,25 @@
 //! Run with `cargo run --release --bin bench`.
 
 use lpspi_host::original_shape::{self, Mode, Pcs, Phase, Polarity};
-use lpspi_host::{raw, BitOrder, Command};
+use lpspi_host::{
+    exchange_separate_u32, exchange_separate_u8, flush, original_runs, raw, BitOrder, Command,
+    Driver, Run,
+};
+use std::cell::RefCell;
+use std::fmt::Debug;
 use std::hint::black_box;
 use std::time::{Duration, Instant};
 
 const BYTES: usize = 512;
 const WORDS: usize = BYTES / 4;
+/// Rounds for words and buffers, and for runs.
 const ROUNDS: u32 = 400;
-/// Calls per round for a whole buffer and for a single word.
+const RUN_ROUNDS: u32 = 2_000;
+/// Calls per round for a whole buffer, for a single word and for a run.
 const BUFFER_CALLS: u32 = 1_000;
 const WORD_CALLS: u32 = 50_000;
+const RUN_CALLS: u32 = 100;
+const BUDGET: usize = 8_000;
 
 fn time(calls: u32, call: &mut impl FnMut()) -> Duration {
     let start = Instant::now();
@@ -22,10 +31,10 @@ fn time(calls: u32, call: &mut impl FnMut()) -> Duration {
     start.elapsed()
 }
 
-/// Alternates both sides, changing which is first, and reports the best rounds.
-fn compare(name: &str, calls: u32, mut baseline: impl FnMut(), mut proved: impl FnMut()) {
+/// Alternates both sides, changing which is first: ns per call in the best rounds.
+fn best(rounds: u32, calls: u32, mut baseline: impl FnMut(), mut proved: impl FnMut()) -> [f64; 2] {
     let mut best = [Duration::MAX; 2];
-    for round in 0..ROUNDS {
+    for round in 0..rounds {
         for side in [round % 2, 1 - round % 2] {
             let taken = match side {
                 0 => time(calls, &mut baseline),
@@ -35,7 +44,11 @@ fn compare(name: &str, calls: u32, mut baseline: impl FnMut(), mut proved: impl 
             *best = taken.min(*best);
         }
     }
-    let [baseline, proved] = best.map(|best| best.as_nanos() as f64 / f64::from(calls));
+    best.map(|best| best.as_nanos() as f64 / f64::from(calls))
+}
+
+fn compare(name: &str, calls: u32, baseline: impl FnMut(), proved: impl FnMut()) {
+    let [baseline, proved] = best(ROUNDS, calls, baseline, proved);
     let ratio = baseline / proved;
     println!("{name:<34} {baseline:>12.2} {proved:>12.2} {ratio:>10.2}");
 }
@@ -151,6 +164,134 @@ fn command() {
     assert_eq!(left, Ok(right), "both sides give the same command word");
 }
 
+/// A call on its read buffer, with script and log.
+type Call<'a, W> = &'a dyn Fn(&mut [W], &[u32], &mut [u32]) -> Run;
+
+/// Both sides use the same buffers, as the places of these in memory matter.
+fn compare_runs<W: Copy + Debug + Default + PartialEq>(
+    name: &str,
+    read_len: usize,
+    script: &[u32],
+    baseline: Call<W>,
+    proved: Call<W>,
+) {
+    let sides = [baseline, proved];
+    let [left, right] = sides.map(|side| {
+        let (mut read, mut log) = (vec![W::default(); read_len], vec![0; 2 * BUDGET]);
+        (side(&mut read, script, &mut log), read, log)
+    });
+    assert_eq!(left, right, "both sides do the same");
+
+    let (Run { accesses, .. }, read, log) = left;
+    let buffers = RefCell::new((read, log));
+    let call = |side: Call<W>| {
+        let (read, log) = &mut *buffers.borrow_mut();
+        black_box(side(black_box(read), black_box(script), black_box(log)));
+    };
+    let [baseline, proved] = best(RUN_ROUNDS, RUN_CALLS, || call(sides[0]), || call(sides[1]));
+    let [left, right] = [baseline, proved].map(|ns| 1e3 * accesses as f64 / ns);
+    let ratio = baseline / proved;
+    println!(
+        "{name:<34} {accesses:>8} {baseline:>9.0} {proved:>9.0} {left:>9.0} {right:>9.0} {ratio:>7.2}"
+    );
+}
+
+/// The answers of an exchange of so many words that goes by bursts: the sending
+/// side sends a burst and finds no space, the receiving side receives it and finds
+/// no word.
+fn by_bursts(words: usize, burst: usize) -> Vec<u32> {
+    let (ready, no_space, no_word) = ([0, 0x404, 0x1_0000], [0, 0x404, 0x1_0004], [0, 0x404, 0]);
+    let mut script = ready.to_vec();
+    for first in (0..words).step_by(burst) {
+        let after = words.min(first + burst);
+        script.extend(ready.repeat(after - first));
+        if after < words {
+            script.extend(no_space);
+        }
+        for word in first..after {
+            script.extend(ready);
+            script.push((word as u32).wrapping_mul(0x9E37_79B9));
+        }
+        if after < words {
+            script.extend(no_word);
+        }
+    }
+    script
+}
+
+type Exchange<W> = fn(Driver, &mut [W], &[W], usize, &[u32], &mut [u32]) -> Run;
+
+/// Receives as many elements as are written.
+fn exchange<W: Copy + Debug + Default + PartialEq>(
+    name: &str,
+    write: &[W],
+    script: &[u32],
+    baseline: Exchange<W>,
+    proved: Exchange<W>,
+) {
+    let call = |side: Exchange<W>| {
+        move |read: &mut [W], script: &[u32], log: &mut [u32]| {
+            let (driver, budget) = black_box((Driver::default(), BUDGET));
+            side(driver, read, black_box(write), budget, script, log)
+        }
+    };
+    compare_runs(name, write.len(), script, &call(baseline), &call(proved));
+}
+
+fn exchange_bytes(bytes: &[u8], burst: usize, polls: &str) {
+    let len = bytes.len();
+    exchange(
+        &format!("{len} bytes, {polls}"),
+        bytes,
+        &by_bursts(len.div_ceil(4), burst),
+        original_runs::exchange_separate_u8,
+        exchange_separate_u8,
+    );
+}
+
+fn exchange_words(words: &[u32]) {
+    let len = words.len();
+    exchange(
+        &format!("{len} words, all polls ready"),
+        words,
+        &by_bursts(len, len),
+        original_runs::exchange_separate_u32,
+        exchange_separate_u32,
+    );
+}
+
+fn flush_busy(reads: usize) {
+    compare_runs::<u8>(
+        &format!("flush, {reads} busy reads, stopped"),
+        0,
+        &vec![1 << 24; reads],
+        &|_, script, log| original_runs::flush(black_box(BUDGET), script, log),
+        &|_, script, log| flush(black_box(BUDGET), script, log),
+    );
+}
+
+fn runs(bytes: &[u8], words: &[u32]) {
+    println!();
+    println!("Runs over a script, budget {BUDGET}: {RUN_ROUNDS} rounds of {RUN_CALLS} calls.");
+    println!("By twos: each side does two words, then finds its FIFO full or empty;");
+    println!("that is an unready poll a word, but for the last two.");
+    println!("Times are ns per call, rates million accesses a second.");
+    println!();
+    println!(
+        "{:<34} {:>8} {:>9} {:>9} {:>9} {:>9} {:>7}",
+        "", "accesses", "baseline", "proved", "rate", "rate", "ratio"
+    );
+    let lengths = [BYTES / 8, BYTES / 2, BYTES];
+    for len in lengths {
+        exchange_bytes(&bytes[..len], len, "all polls ready");
+    }
+    for len in lengths {
+        exchange_bytes(&bytes[..len], 2, "by twos");
+    }
+    exchange_words(words);
+    flush_busy(7_900);
+}
+
 fn main() {
     println!("Best of {ROUNDS} rounds for each side, alternated in one process.");
     println!("A round is {BUFFER_CALLS} calls on buffers or {WORD_CALLS} calls on single words.");
@@ -174,4 +315,5 @@ fn main() {
     }
     clock();
     command();
+    runs(&bytes, &words);
 }

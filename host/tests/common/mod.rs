@@ -62,6 +62,16 @@ impl Random {
         self.word() >> shift
     }
 
+    /// A number below `limit`, which is not 0.
+    pub fn below(&mut self, limit: usize) -> usize {
+        self.word() as usize % limit
+    }
+
+    /// True `often` times in 256.
+    pub fn chance(&mut self, often: u32) -> bool {
+        self.word() % 256 < often
+    }
+
     pub fn flag(&mut self) -> bool {
         self.word() & 1 == 1
     }
