@@ -36,6 +36,12 @@ spread-some o k n w ys bs hn hb x ex r er e =
     laid-some x (unpack o k (n - 1) r) ys bs hb e
     ∙ ap (λ (l : List ℕ). laid l bs) (ap₂ (λ (a b : ℕ). a ∷ unpack o k (n - 1) b) ex er ∙ sym (unpack-some o k n w hn))
 
+-- the last element
+pub spread-last : (o : BitOrder) (k n w : ℕ) (bs : List ℕ) → n ≡ 1 → (length bs ≡ 0 → ⊥) → (x : ℕ) → x ≡ first o k (n - 1) w → set bs 0 x ≡ laid (unpack o k n w) bs
+spread-last o k n w [] e h x ex = absurd (h refl)
+spread-last o k n w (b ∷ bs) e h x ex =
+    ap (λ (y : ℕ). y ∷ bs) (ex ∙ ap (λ (m : ℕ). first o k (m - 1) w) e) ∙ sym (ap (λ (m : ℕ). laid (unpack o k m w) (b ∷ bs)) e)
+
 -- what comes back is as long as what was lent
 pub back-length : (x : ℕ) (bs ys : List ℕ) → length ys ≡ length (midOf 1 (length (set bs 0 x) - 1) (set bs 0 x))
     → length (putMid 1 (length (set bs 0 x) - 1) (set bs 0 x) ys) ≡ length bs

@@ -13,10 +13,11 @@ pub enum UnpackResult {
     TooMany,
 }
 
-// The first of `n` elements of a word to the front of a buffer, and the rest after it; what has no room is dropped.
-pub(crate) fn spread_u8(order: BitOrder, n: usize, word: u32, out: &mut [u8])
+// The first of `n` elements of a word to the front of a buffer, and the rest after it; what has no room is dropped. There is a function for
+// each order, so that the order is looked at once a word.
+fn spread_msb_u8(n: usize, word: u32, out: &mut [u8])
     requires { ⌜ n ≤ 4 ⌝ }
-    ensures { λ _. ⌜ now (out .exit) ≡ laid (unpack order 8 n word) (now (out .entry)) ⌝ }
+    ensures { λ _. ⌜ now (out .exit) ≡ laid (unpack BitOrder.Msb 8 n word) (now (out .entry)) ⌝ }
 {
     if n == 0 {
         return;
@@ -24,22 +25,82 @@ pub(crate) fn spread_u8(order: BitOrder, n: usize, word: u32, out: &mut [u8])
     if out.len() == 0 {
         return;
     }
-    out[0] = head(order, 8, n - 1, word) as u8;
-    spread_u8(order, n - 1, tail(order, 8, n - 1, word), &mut out[1..]);
+    out[0] = head(BitOrder::Msb, 8, n - 1, word) as u8;
+    if n == 1 {
+        return;
+    }
+    spread_msb_u8(n - 1, tail(BitOrder::Msb, 8, n - 1, word), &mut out[1..]);
+}
+
+fn spread_lsb_u8(n: usize, word: u32, out: &mut [u8])
+    requires { ⌜ n ≤ 4 ⌝ }
+    ensures { λ _. ⌜ now (out .exit) ≡ laid (unpack BitOrder.Lsb 8 n word) (now (out .entry)) ⌝ }
+{
+    if n == 0 {
+        return;
+    }
+    if out.len() == 0 {
+        return;
+    }
+    out[0] = head(BitOrder::Lsb, 8, n - 1, word) as u8;
+    if n == 1 {
+        return;
+    }
+    spread_lsb_u8(n - 1, tail(BitOrder::Lsb, 8, n - 1, word), &mut out[1..]);
+}
+
+pub(crate) fn spread_u8(order: BitOrder, n: usize, word: u32, out: &mut [u8])
+    requires { ⌜ n ≤ 4 ⌝ }
+    ensures { λ _. ⌜ now (out .exit) ≡ laid (unpack order 8 n word) (now (out .entry)) ⌝ }
+{
+    match order {
+        BitOrder::Msb => spread_msb_u8(n, word, out),
+        BitOrder::Lsb => spread_lsb_u8(n, word, out),
+    }
+}
+
+fn spread_msb_u16(n: usize, word: u32, out: &mut [u16])
+    requires { ⌜ n ≤ 2 ⌝ }
+    ensures { λ _. ⌜ now (out .exit) ≡ laid (unpack BitOrder.Msb 16 n word) (now (out .entry)) ⌝ }
+{
+    if n == 0 {
+        return;
+    }
+    if out.len() == 0 {
+        return;
+    }
+    out[0] = head(BitOrder::Msb, 16, n - 1, word) as u16;
+    if n == 1 {
+        return;
+    }
+    spread_msb_u16(n - 1, tail(BitOrder::Msb, 16, n - 1, word), &mut out[1..]);
+}
+
+fn spread_lsb_u16(n: usize, word: u32, out: &mut [u16])
+    requires { ⌜ n ≤ 2 ⌝ }
+    ensures { λ _. ⌜ now (out .exit) ≡ laid (unpack BitOrder.Lsb 16 n word) (now (out .entry)) ⌝ }
+{
+    if n == 0 {
+        return;
+    }
+    if out.len() == 0 {
+        return;
+    }
+    out[0] = head(BitOrder::Lsb, 16, n - 1, word) as u16;
+    if n == 1 {
+        return;
+    }
+    spread_lsb_u16(n - 1, tail(BitOrder::Lsb, 16, n - 1, word), &mut out[1..]);
 }
 
 pub(crate) fn spread_u16(order: BitOrder, n: usize, word: u32, out: &mut [u16])
     requires { ⌜ n ≤ 2 ⌝ }
     ensures { λ _. ⌜ now (out .exit) ≡ laid (unpack order 16 n word) (now (out .entry)) ⌝ }
 {
-    if n == 0 {
-        return;
+    match order {
+        BitOrder::Msb => spread_msb_u16(n, word, out),
+        BitOrder::Lsb => spread_lsb_u16(n, word, out),
     }
-    if out.len() == 0 {
-        return;
-    }
-    out[0] = head(order, 16, n - 1, word) as u16;
-    spread_u16(order, n - 1, tail(order, 16, n - 1, word), &mut out[1..]);
 }
 
 // `count` bytes of a word over the front of a buffer.
