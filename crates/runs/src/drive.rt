@@ -20,7 +20,7 @@ use machine::transfer::Transfer;
 use words::buffer::cut_word;
 use words::width::Width;
 
-// What is sent where a word was already received: in place, that word, cut to its elements of the `total`.
+// The elements behind the words: their width and total count. In place, a word that was received is sent as received.
 pub struct Frame {
     pub width: Width,
     pub total: usize,

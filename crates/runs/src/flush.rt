@@ -1,17 +1,18 @@
 // `flush`: wait for all ongoing transactions to be finished.
 ghost use mathlib.Core.Path.{_≡_};
-ghost use Prim.Native.Nat.{_*_, _≤_, min};
-ghost use lib.ListN.{length};
-ghost use Rattle.machine.specs.Flush.{flushAccess};
-ghost use Rattle.runs.specs.Run.{placeOf, ended, endingOf, left};
+ghost use Prim.Native.Nat.{_+_, _*_, _<_, _≤_, min};
+ghost use lib.ListN.{length, getD};
+ghost use Rattle.runs.specs.Run.{put, left};
 ghost use Rattle.runs.specs.Flush.{flushLoop, flushRun, flushLeft};
+use crate::access::ended;
+use crate::access::ending_of;
+use crate::access::place_of;
 use crate::log::limits;
-use crate::log::read;
+use crate::log::put;
 use crate::result::RunResult;
 use machine::access::Ending;
 use machine::driver::Lpspi;
 use machine::flush::Flush;
-use manual::Register;
 
 // What the loop comes to.
 pub(crate) struct Flushed {
@@ -25,39 +26,14 @@ fn least(a: usize, b: usize) -> usize
     if a < b { a } else { b }
 }
 
-fn has_ended(flush: Flush) -> bool
-    ensures { λ r. ⌜ r ≡ ended (flushAccess flush) ⌝ }
+// The next answer, which the log has: every access of a flush is a read, so that as many were used as made.
+fn read(script: &[u32], log: &mut [u32], made: usize, at: u32) -> u32
+    requires { ⌜ (2 * made + 1 < length (now log)) × (made < length (now script)) ⌝ }
+    ensures { λ r. ⌜ (r ≡ getD (now (script .entry)) made 0) × (now (log .exit) ≡ put (now (log .entry)) made at (getD (now (script .entry)) made 0)) ⌝ }
 {
-    match flush {
-        Flush::Status => false,
-        Flush::Sizes => false,
-        Flush::Counts => false,
-        Flush::Ended(_) => true,
-    }
-}
-
-// How a flush that stands there ended: its answer, or Stopped where an access is due.
-fn ending_of(flush: Flush) -> Ending
-    ensures { λ r. ⌜ r ≡ endingOf (flushAccess flush) ⌝ }
-{
-    match flush {
-        Flush::Status => Ending::Stopped,
-        Flush::Sizes => Ending::Stopped,
-        Flush::Counts => Ending::Stopped,
-        Flush::Ended(e) => e,
-    }
-}
-
-// The offset of the register whose read is due.
-fn offset_of(flush: Flush) -> u32
-    ensures { λ r. ⌜ r ≡ placeOf (flushAccess flush) ⌝ }
-{
-    match flush {
-        Flush::Status => Register::SR.offset(),
-        Flush::Sizes => Register::PARAM.offset(),
-        Flush::Counts => Register::FSR.offset(),
-        Flush::Ended(_) => 0,
-    }
+    let value = script[made];
+    put(log, made, at, value);
+    value
 }
 
 // One polling loop, an access a turn: it yields an error or Ok where the flush has ended, and Stopped where budget or script is used up.
@@ -69,13 +45,14 @@ fn poll(budget: usize, script: &[u32], log: &mut [u32]) -> Flushed
     let mut flush = Flush::new();
     let mut made: usize = 0;
     let ending = loop {
-        if has_ended(flush) {
-            break ending_of(flush);
+        let access = flush.next();
+        if ended(access) {
+            break ending_of(access);
         }
         if end <= made {
             break Ending::Stopped;
         }
-        let value = read(script, log, made, offset_of(flush));
+        let value = read(script, log, made, place_of(access));
         made += 1;
         flush = flush.answered(value);
     };

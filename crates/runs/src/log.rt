@@ -1,7 +1,7 @@
-// The script and the log of a run.
+// The log of a run, and its limits.
 ghost use mathlib.Core.Path.{_≡_};
 ghost use Prim.Native.Nat.{_+_, _*_, _<_};
-ghost use lib.ListN.{length, getD};
+ghost use lib.ListN.{length};
 ghost use Rattle.runs.specs.Run.{put, limits};
 
 // The largest budget.
@@ -25,14 +25,4 @@ pub(crate) fn put(log: &mut [u32], made: usize, at: u32, value: u32)
     let i = 2 * made;
     log[i] = at;
     log[i + 1] = value;
-}
-
-// A read where every access so far was one: the next answer, which the log has.
-pub(crate) fn read(script: &[u32], log: &mut [u32], made: usize, at: u32) -> u32
-    requires { ⌜ (2 * made + 1 < length (now log)) × (made < length (now script)) ⌝ }
-    ensures { λ r. ⌜ (r ≡ getD (now (script .entry)) made 0) × (now (log .exit) ≡ put (now (log .entry)) made at (getD (now (script .entry)) made 0)) ⌝ }
-{
-    let value = script[made];
-    put(log, made, at, value);
-    value
 }
