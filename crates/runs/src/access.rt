@@ -1,6 +1,6 @@
 // What an access does in a run, one small function a part.
 ghost use mathlib.Core.Path.{_≡_};
-ghost use Rattle.runs.specs.Run.{placeOf, usesOf, answerOf, ended, halted, endingOf};
+ghost use Rattle.runs.specs.Run.{placeOf, usesOf, answerOf, halted, endingOf};
 use machine::access::Access;
 use machine::access::Ending;
 use manual::Register;
@@ -56,19 +56,6 @@ pub(crate) fn halted(access: Access, used: usize, answers: usize) -> bool
         Access::Write(_, _) => false,
         Access::Send(_) => false,
         Access::Receive(_) => answers <= used,
-        Access::Done(_) => true,
-    }
-}
-
-// No access is due any more.
-pub(crate) fn ended(access: Access) -> bool
-    ensures { λ r. ⌜ r ≡ ended access ⌝ }
-{
-    match access {
-        Access::Read(_) => false,
-        Access::Write(_, _) => false,
-        Access::Send(_) => false,
-        Access::Receive(_) => false,
         Access::Done(_) => true,
     }
 }

@@ -4,7 +4,7 @@ use Prim.Native.Nat.{ℕ, _≤_, _-_}
 use mathlib.Core.Path.{_≡_, refl, sym, ap, _∙_}
 use native.Mathlib.Omega.{arith}
 use lib.ListN.{length, getD}
-use Rattle.runs.specs.Run.{placeOf, ended, endingOf, put}
+use Rattle.runs.specs.Run.{put}
 use Rattle.runs.proofs.FlushLaws.{At, at-start, at-next, loop-ended, loop-stopped}
 use borrow.Author.Needs.{needs}
 use Rattle.runs.proofs.flush.poll.Statement.{statement}
@@ -27,17 +27,14 @@ loop-holds c =
     let a = c .before .before .before .before .args in
     (omega arith, refl, rw (c .new .ensures) (at-start (a .script .now) (a .log .now)))
 
-next-requires : tie.Need-next-requires Inv-loop μ-loop
-next-requires c κs = search needs
-
-ended-requires : tie.Need-ended-requires Inv-loop μ-loop
-ended-requires c κs = search needs
+has-ended-requires : tie.Need-has-ended-requires Inv-loop μ-loop
+has-ended-requires c κs = search needs
 
 ending-of-requires : tie.Need-ending-of-requires Inv-loop μ-loop
 ending-of-requires c κs = search needs
 
-place-of-requires : tie.Need-place-of-requires Inv-loop μ-loop
-place-of-requires c κs = search needs
+offset-of-requires : tie.Need-offset-of-requires Inv-loop μ-loop
+offset-of-requires c κs = search needs
 
 read-requires : tie.Need-read-requires Inv-loop μ-loop
 read-requires c κs = (omega arith, omega arith)
@@ -53,36 +50,35 @@ loop-less c = omega arith
 
 loop-again : tie.Need-loop-again Inv-loop μ-loop
 loop-again c =
-    let l = c .before .before .before .before .before .before .before .before .before .before .loop in
-    let a = c .before .before .before .before .before .before .before .before .before .before .before .before .before .before .before .args in
+    let p = c .before .before .before .before .before .before .before .before .before in
+    let l = p .loop in
+    let a = p .before .before .before .before .before .args in
     let r = c .before .before .before .read in
-    let due = c .before .before .before .before .before .before .before .before .before .next .ensures in
-    let e = ap ended (sym due) ∙ sym (c .before .before .before .before .before .before .before .before .ended .ensures) ∙ c .before .before .before .before .before .before .before .if1 .left in
-    let logged = r .ensures .1 ∙ ap (λ (x : ℕ). put (l .log) (l .made) x (getD (a .script .now) (l .made) 0)) (c .before .before .before .before .place-of .ensures ∙ ap placeOf due) in (
+    let e = sym (c .before .before .before .before .before .before .before .before .has-ended .ensures) ∙ c .before .before .before .before .before .before .before .if1 .left in
+    let logged = r .ensures .1 ∙ ap (λ (x : ℕ). put (l .log) (l .made) x (getD (a .script .now) (l .made) 0)) (c .before .before .before .before .offset-of .ensures) in (
       omega arith,
       r .kept .1 .0 ∙ l .inv .1,
       at-next (a .script .now) (a .log .now) (l .made) (l .flush) (l .log) (l .inv .2) (c .answered .result) (r .result) (r .last .1 .0) e (omega arith) (omega arith) (r .ensures .0) logged (c .answered .ensures),
     )
 
 same-length : tie.Need-same-length Inv-loop μ-loop
-same-length c = c .before .before .before .before .loop .inv .1
+same-length c = c .before .before .before .loop .inv .1
 
 returns : tie.Need-returns Inv-loop μ-loop
 returns c =
-    let l = c .before .before .before .before .loop in
-    let a = c .before .before .before .before .before .before .before .before .before .args in
-    let due = c .before .before .before .next .ensures in
-    let e = ap ended (sym due) ∙ sym (c .before .before .ended .ensures) ∙ c .before .if1 .taken in
-    loop-ended (a .script .now) (a .log .now) (l .made) (l .flush) (l .log) (l .inv .2) (a .budget) (c .ending-of .result) (omega arith) e (c .ending-of .ensures ∙ ap endingOf due)
+    let l = c .before .before .before .loop in
+    let a = c .before .before .before .before .before .before .before .before .args in
+    let e = sym (c .before .before .has-ended .ensures) ∙ c .before .if1 .taken in
+    loop-ended (a .script .now) (a .log .now) (l .made) (l .flush) (l .log) (l .inv .2) (a .budget) (c .ending-of .result) (omega arith) e (c .ending-of .ensures)
 
 same-length-2 : tie.Need-same-length-2 Inv-loop μ-loop
-same-length-2 c = c .before .before .before .before .loop .inv .1
+same-length-2 c = c .before .before .before .loop .inv .1
 
 returns-2 : tie.Need-returns-2 Inv-loop μ-loop
 returns-2 c =
-    let l = c .before .before .before .before .loop in
-    let a = c .before .before .before .before .before .before .before .before .before .args in
-    let e = ap ended (sym (c .before .before .before .next .ensures)) ∙ sym (c .before .before .ended .ensures) ∙ c .before .if1 .left in
+    let l = c .before .before .before .loop in
+    let a = c .before .before .before .before .before .before .before .before .args in
+    let e = sym (c .before .before .has-ended .ensures) ∙ c .before .if1 .left in
     loop-stopped (a .script .now) (a .log .now) (l .made) (l .flush) (l .log) (l .inv .2) (a .budget) (omega arith) e (omega arith)
 
 pub poll-spec : {M : Type 1} → statement M
@@ -94,10 +90,9 @@ poll-spec =
     least-requires
     new-requires
     loop-holds
-    next-requires
-    ended-requires
+    has-ended-requires
     ending-of-requires
-    place-of-requires
+    offset-of-requires
     read-requires
     add-made
     answered-requires
