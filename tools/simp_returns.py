@@ -1,6 +1,6 @@
 #!/usr/bin/env python3
 # Fills `?` at the `returns` needs of proof files with a `simp` over the facts on the way there, read off the generated Lts.
-# In the repository's root, after `rt goals CRATE`:  simp_returns.py CRATE module/function ..   (as engine/after_send)
+# In the repository's root, after `rt goals CRATE`:  simp_returns.py CRATE module/function ..   (as transfer/after_sending)
 # TESTS=name,name .. names the callees whose results are only tested: their `ensures` is used from right to left.
 import os,re,sys
 crate=sys.argv[1]

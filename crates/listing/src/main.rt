@@ -5,10 +5,16 @@ use machine::driver::Lpspi;
 use runs::flush::flush;
 use runs::result::RunResult;
 use transfers::exchange::exchange_u8;
+use transfers::exchange::exchange_u16;
+use transfers::exchange::exchange_u32;
 use transfers::exchange_separate::exchange_separate_u8;
 use transfers::exchange_separate::exchange_separate_u16;
+use transfers::read_no_write::read_no_write_u8;
+use transfers::read_no_write::read_no_write_u16;
 use transfers::read_no_write::read_no_write_u32;
 use transfers::write_no_read::write_no_read_u8;
+use transfers::write_no_read::write_no_read_u16;
+use transfers::write_no_read::write_no_read_u32;
 use words::order::BitOrder;
 
 fn text(bytes: &[u8]) {
@@ -201,20 +207,147 @@ fn half(h: u16) {
     text(b"\n");
 }
 
-fn show_one_way() {
-    text(b"write of 11 22 33\n");
-    let script = [0u32, 0x404, 0, 0, 0x404, 0];
+fn word(w: u32) {
+    eight_digits(w);
+    text(b"\n");
+}
+
+fn show_exchange_in_place() {
+    let script = [0u32, 0x404, 0, 0, 0x404, 0, 0, 0x404, 0x10000, 0x5566_7788];
     let mut log = [0u32; 40];
+    text(b"exchange in place of 1122 3344\n");
+    let mut halves = [0x1122u16, 0x3344];
+    let r = exchange_u16(Lpspi::new(), &mut halves, 20, &script, &mut log);
+    accesses(&log, r.accesses);
+    half(halves[0]);
+    half(halves[1]);
+    result(r);
+    text(b"exchange in place of A0B0C0D0\n");
+    let mut words = [0xA0B0_C0D0u32];
+    let r = exchange_u32(Lpspi::new(), &mut words, 20, &script, &mut log);
+    accesses(&log, r.accesses);
+    word(words[0]);
+    result(r);
+}
+
+fn show_write() {
+    let script = [0u32, 0x404, 0, 0, 0x404, 0, 0, 0x404, 0];
+    let mut log = [0u32; 40];
+    text(b"write of 11 22 33\n");
     let r = write_no_read_u8(Lpspi::new(), &[0x11u8, 0x22, 0x33], 20, &script, &mut log);
     accesses(&log, r.accesses);
     result(r);
+    text(b"write of 1122 3344 5566\n");
+    let r = write_no_read_u16(
+        Lpspi::new(),
+        &[0x1122u16, 0x3344, 0x5566],
+        20,
+        &script,
+        &mut log,
+    );
+    accesses(&log, r.accesses);
+    result(r);
+    text(b"write of DEADBEEF\n");
+    let r = write_no_read_u32(Lpspi::new(), &[0xDEAD_BEEFu32], 20, &script, &mut log);
+    accesses(&log, r.accesses);
+    result(r);
+}
+
+fn show_read() {
+    let script = [0u32, 0x404, 0, 0, 0x404, 0x10000, 0xDE11_2233];
+    let mut log = [0u32; 40];
+    text(b"read of three bytes\n");
+    let mut read = [0u8; 3];
+    let r = read_no_write_u8(Lpspi::new(), &mut read, 20, &script, &mut log);
+    accesses(&log, r.accesses);
+    bytes(&read);
+    result(r);
+    text(b"read of one half\n");
+    let mut read = [0u16; 1];
+    let r = read_no_write_u16(Lpspi::new(), &mut read, 20, &script, &mut log);
+    accesses(&log, r.accesses);
+    half(read[0]);
+    result(r);
     text(b"read of one word\n");
-    let script = [0u32, 0x404, 0, 0, 0x404, 0x10000, 0xDEAD_BEEF];
     let mut read = [0u32; 1];
     let r = read_no_write_u32(Lpspi::new(), &mut read, 20, &script, &mut log);
     accesses(&log, r.accesses);
-    eight_digits(read[0]);
-    text(b"\n");
+    word(read[0]);
+    result(r);
+}
+
+// A write buffer that is longer: a 1-byte read of a 4-byte word takes the highest byte.
+fn show_short_read() {
+    text(b"exchange of 01 02 03 04 for one byte\n");
+    let script = [0u32, 0x404, 0, 0, 0x404, 0, 0, 0x404, 0x10000, 0x1122_3344];
+    let mut log = [0u32; 40];
+    let mut read = [0u8; 1];
+    let r = exchange_separate_u8(
+        Lpspi::new(),
+        &mut read,
+        &[1u8, 2, 3, 4],
+        20,
+        &script,
+        &mut log,
+    );
+    accesses(&log, r.accesses);
+    bytes(&read);
+    result(r);
+}
+
+// A receive error after one word came in; the script ends where the recovery begins.
+fn show_error_after_a_word() {
+    text(b"exchange of A5 for eight bytes, an error after the first word\n");
+    let script = [
+        0u32,
+        0x404,
+        0,
+        0,
+        0x404,
+        0,
+        0,
+        0x404,
+        0,
+        0,
+        0x404,
+        0x10000,
+        0x1122_3344,
+        0x1000,
+    ];
+    let mut log = [0u32; 80];
+    let mut read = [0x77u8; 8];
+    let r = exchange_separate_u8(Lpspi::new(), &mut read, &[0xA5u8], 40, &script, &mut log);
+    accesses(&log, r.accesses);
+    bytes(&read);
+    result(r);
+}
+
+// A transmit error after the command, with its recovery.
+fn show_transmit_error() {
+    text(b"a transmit error after the command\n");
+    let script = [
+        0u32,
+        0x404,
+        0,
+        0x800,
+        0x11,
+        0x22,
+        0x33,
+        0x44,
+        0x55,
+        0x66,
+        0x0707_070E,
+        0x88,
+        1,
+        1,
+        2,
+        2,
+        0,
+        0,
+    ];
+    let mut log = [0u32; 80];
+    let r = write_no_read_u8(Lpspi::new(), &[0xA5u8], 40, &script, &mut log);
+    accesses(&log, r.accesses);
     result(r);
 }
 
@@ -257,7 +390,12 @@ fn main() {
     show_recovery(20);
     show_in_place();
     show_halves();
-    show_one_way();
+    show_exchange_in_place();
+    show_short_read();
+    show_write();
+    show_read();
+    show_error_after_a_word();
+    show_transmit_error();
     show_refusals();
     show_flush();
 }

@@ -29,7 +29,7 @@ use Rattle.machine.specs.Reset.{resetAfter, resetDone}
 use Rattle.machine.specs.Transfer.{at, startTransfer, sendTurn, receiveTurn, oneSent, oneReceived, spaceBy, sendingBy, receivingBy, dueAccess, resumed}
 use Rattle.runs.specs.Run.{Logged, State, start, halted, answerOf, endingOf, times, moved, step, run}
 use Rattle.runs.specs.Unready.{unreadyIn, unready, unreadyPolls}
-use Rattle.runs.proofs.Places.{Turn, Placed, counted-up, placed-step, placed-run, start-placed, in-place, done-phase}
+use Rattle.runs.proofs.Places.{Turn, Placed, counted-up, placed-step, placed-run, start-placed, in-order, done-phase}
 
 -- reads of a poll that were made
 abbrev reads : Poll → ℕ
@@ -170,13 +170,7 @@ module _ (script : List ℕ) (words : List ℕ → ℕ → ℕ) (d : Lpspi) (com
       let s : State Transfer = start (startTransfer d command send receive) in
       let u : State Transfer = run dueAccess resumed words script budget s in
       let due = ok-done (dueAccess (u .machine)) e in
-      let all = in-place send receive u (placed-run send receive words script budget s (start-placed d command send receive)) .all due in
+      let all = in-order send receive u (placed-run send receive words script budget s (start-placed d command send receive)) .all due in
       let count = subst (λ (p : Phase). Bill p (u .machine .work) (length (u .log)) (0 + unreadyPolls script words budget s)) (done-phase (u .machine .phase) (u .machine .work) (u .machine .reset) Ok due)
       (bill-run script words send receive budget s 0 (start-placed d command send receive) refl) in
       omega (arith, all, count)
-
-  -- AN OK EXCHANGE OF n WORDS with w unready polls makes at most 4 + 8n + 3w accesses
-  pub ok-at-most : (n : ℕ) → endingOf (dueAccess (run dueAccess resumed words script budget (start (startTransfer d command n n)) .machine)) ≡ Ok
-      → length (run dueAccess resumed words script budget (start (startTransfer d command n n)) .log)
-      ≤ 4 + 8 * n + 3 * unreadyPolls script words budget (start (startTransfer d command n n))
-  ok-at-most n e = omega (arith, ok-exactly n n e)

@@ -4,6 +4,7 @@ pub mod RunUnlimited
 pub mod Unlimited
 pub mod Places
 pub mod Bill
+pub mod Calls
 pub mod DriveLaws
 mod FlushLaws
 mod TurnLaws

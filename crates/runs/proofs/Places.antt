@@ -181,7 +181,7 @@ module _ (send receive : ℕ) where
     placed-run (suc n) s h = placed-run n (step dueAccess resumed words script s) (placed-step s h)
 
 -- THE WORDS DONE AND THE WORD THAT IS DUE, for every state of a transfer of so many words
-pub record InPlace (send receive : ℕ) (s : State Transfer) : Type 0 where
+pub record InOrder (send receive : ℕ) (s : State Transfer) : Type 0 where
   pub toSend : s .machine .work .send ≡ send
   pub toReceive : s .machine .work .receive ≡ receive
   pub sent : s .machine .work .sent ≤ send
@@ -247,8 +247,8 @@ done-phase Receive w r x e = absurd (omega (arith, ap kind e))
 done-phase (Recovery d) w r x e = absurd (omega (arith, move-kind (moveAt (r .place)) r, ap kind e))
 done-phase (Ended y) w r x e = cc
 
-pub in-place : (send receive : ℕ) (s : State Transfer) → Placed send receive (s .machine) (length (s .received)) → InPlace send receive s
-in-place send receive s h =
+pub in-order : (send receive : ℕ) (s : State Transfer) → Placed send receive (s .machine) (length (s .received)) → InOrder send receive s
+in-order send receive s h =
     let p = s .machine .phase in
     let w = s .machine .work in
     let r = s .machine .reset in
@@ -268,6 +268,6 @@ start-placed d command send receive = record { toSend = refl; toReceive = refl; 
 
 -- EVERY STATE OF A RUN from the start of a transfer
 pub run-places : (d : Lpspi) (command send receive : ℕ) (words : List ℕ → ℕ → ℕ) (script : List ℕ) (n : ℕ)
-    → InPlace send receive (run dueAccess resumed words script n (start (startTransfer d command send receive)))
+    → InOrder send receive (run dueAccess resumed words script n (start (startTransfer d command send receive)))
 run-places d command send receive words script n =
-    in-place send receive _ (placed-run send receive words script n (start (startTransfer d command send receive)) (start-placed d command send receive))
+    in-order send receive _ (placed-run send receive words script n (start (startTransfer d command send receive)) (start-placed d command send receive))

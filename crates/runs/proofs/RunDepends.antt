@@ -8,43 +8,81 @@ use mathlib.Core.Path.{_≡_, refl, sym, ap, ap₂, _∙_, subst}
 use native.Mathlib.Omega.{arith}
 use lib.Dec.{leb}
 use lib.ListN.{length, getD, length-append}
-use borrow.Author.Tests.{lt-leb}
+use borrow.Author.Tests.{lt-leb, leb-false}
+use Rattle.manual.specs.declared.Register.{Register}
 use Rattle.machine.specs.declared.access.Access.{Access}
 use Rattle.machine.specs.declared.access.Access.the-variants.{Read, Write, Send, Receive, Done}
+use Rattle.machine.specs.declared.poll.Poll.{Poll}
+use Rattle.machine.specs.declared.poll.Poll.the-variants.{Status, Sizes, Counts}
+use Rattle.machine.specs.declared.reset.Move.{Move}
+use Rattle.machine.specs.declared.reset.Move.the-variants.{Keep, KeepEnabled, Look, Wait, WriteCr, Put, ClearErrors}
+use Rattle.machine.specs.declared.reset.Reset.{Reset}
+use Rattle.machine.specs.declared.transfer.Phase.{Phase}
+use Rattle.machine.specs.declared.transfer.Phase.the-variants.{Space, Command, Sending, Send as SendPhase, Receiving, Receive as ReceivePhase, Recovery, Ended}
+use Rattle.machine.specs.declared.transfer.Work.{Work}
+use Rattle.machine.specs.Poll.{pollAccess}
+use Rattle.machine.specs.Reset.{moveAt, moveAccess}
+use Rattle.machine.specs.Transfer.{at, dueAccess, resumed}
 use Rattle.runs.specs.Run.{Logged, placeOf, valueOf, usesOf, answerOf, receivedAfter, halted, times, State, moved, step, run}
+use Rattle.runs.proofs.RunLaws.{step-log, run-log}
+
+-- the places of the accesses made
+abbrev pub places : List Logged → List ℕ
+places [] = []
+places (a ∷ l) = a .at ∷ places l
+
+places-last : (l : List Logged) (a : Logged) → places (l ++ (a ∷ [])) ≡ places l ++ (a .at ∷ [])
+places-last [] a = refl
+places-last (b ∷ l) a = ap (λ (x : List ℕ). b .at ∷ x) (places-last l a)
 
 module _ {M : Type 0} (next : M → Access) (resume : M → ℕ → M) where
-  -- the same machine, answers used and accesses made
+  -- the same machine, answers used and registers accessed, in order
   pub record SameCourse (s u : State M) : Type 0 where
     pub machine : s .machine ≡ u .machine
     pub used : s .used ≡ u .used
-    pub made : length (s .log) ≡ length (u .log)
+    pub accessed : places (s .log) ≡ places (u .log)
 
-  module _ (script : List ℕ) (w₁ w₂ : List ℕ → ℕ → ℕ) where
+  -- a machine that does not look at the words that it receives
+  abbrev pub Blind : Type 0
+  Blind = (m : M) (i v w : ℕ) → next m ≡ Receive i → resume m v ≡ resume m w
+
+  module _ (blind : Blind) (x y : List ℕ) (same-length : length x ≡ length y) (w₁ w₂ : List ℕ → ℕ → ℕ) where
+    -- where a register is read, the scripts have the same answer; where a word is received, any
+    abbrev pub SameReads : State M → Type 0
+    SameReads s = (g : Register) → next (s .machine) ≡ Read g → getD x (s .used) 0 ≡ getD y (s .used) 0
+
     same-cond : (t : Bool) (s u s′ u′ : State M) → SameCourse s u → SameCourse s′ u′ → SameCourse (cond t s s′) (cond t u u′)
     same-cond true s u s′ u′ h k = h
     same-cond false s u s′ u′ h k = k
 
-    longer : (l₁ l₂ : List Logged) (x y : Logged) → length l₁ ≡ length l₂ → length (l₁ ++ (x ∷ [])) ≡ length (l₂ ++ (y ∷ []))
-    longer l₁ l₂ x y h = omega (arith, length-append l₁ (x ∷ []), length-append l₂ (y ∷ []))
+    told : (a : Access) (m : M) (n : ℕ) → next m ≡ a → ((g : Register) → next m ≡ Read g → getD x n 0 ≡ getD y n 0) → resume m (answerOf a (getD x n 0)) ≡ resume m (answerOf a (getD y n 0))
+    told (Read g) m n e h = ap (resume m) (h g e)
+    told (Write g v) m n e h = refl
+    told (Send i) m n e h = refl
+    told (Receive i) m n e h = blind m i (getD x n 0) (getD y n 0) e
+    told (Done z) m n e h = refl
 
-    same-step : (m : M) (n : ℕ) (l₁ l₂ : List Logged) (r₁ r₂ : List ℕ) → length l₁ ≡ length l₂
-        → SameCourse (step next resume w₁ script (record { machine = m; used = n; log = l₁; received = r₁ })) (step next resume w₂ script (record { machine = m; used = n; log = l₂; received = r₂ }))
+    same-step : (m : M) (n : ℕ) (l₁ l₂ : List Logged) (r₁ r₂ : List ℕ) → places l₁ ≡ places l₂ → ((g : Register) → next m ≡ Read g → getD x n 0 ≡ getD y n 0)
+        → SameCourse (step next resume w₁ x (record { machine = m; used = n; log = l₁; received = r₁ })) (step next resume w₂ y (record { machine = m; used = n; log = l₂; received = r₂ }))
     unfolding step moved
-    same-step m n l₁ l₂ r₁ r₂ h =
-        same-cond (halted (next m) n (length script)) _ _ _ _ (record { machine = refl; used = refl; made = h }) (record { machine = refl; used = refl; made = longer l₁ l₂ _ _ h })
+    same-step m n l₁ l₂ r₁ r₂ h k =
+        rw (ap (halted (next m) n) same-length)
+        (same-cond (halted (next m) n (length y)) _ _ _ _ (record { machine = refl; used = refl; accessed = h })
+        (record { machine = told (next m) m n refl k; used = refl; accessed = places-last l₁ _ ∙ ap (λ (z : List ℕ). z ++ (placeOf (next m) ∷ [])) h ∙ sym (places-last l₂ _) }))
 
-    step-same : (s u : State M) → SameCourse s u → SameCourse (step next resume w₁ script s) (step next resume w₂ script u)
-    step-same s u h =
-        subst (λ (m : M). SameCourse (step next resume w₁ script s) (step next resume w₂ script (record { machine = m; used = u .used; log = u .log; received = u .received }))) (h .machine)
-        (subst (λ (n : ℕ). SameCourse (step next resume w₁ script s) (step next resume w₂ script (record { machine = s .machine; used = n; log = u .log; received = u .received }))) (h .used)
-        (same-step (s .machine) (s .used) (s .log) (u .log) (s .received) (u .received) (h .made)))
+    step-same : (s u : State M) → SameCourse s u → SameReads s → SameCourse (step next resume w₁ x s) (step next resume w₂ y u)
+    step-same s u h k =
+        subst (λ (m : M). SameCourse (step next resume w₁ x s) (step next resume w₂ y (record { machine = m; used = u .used; log = u .log; received = u .received }))) (h .machine)
+        (subst (λ (n : ℕ). SameCourse (step next resume w₁ x s) (step next resume w₂ y (record { machine = s .machine; used = n; log = u .log; received = u .received }))) (h .used)
+        (same-step (s .machine) (s .used) (s .log) (u .log) (s .received) (u .received) (h .accessed) k))
 
-    -- CONTROL DOES NOT DEPEND ON THE DATA: whatever words are sent and were received, the same accesses follow
-    pub same-run : (n : ℕ) (s u : State M) → SameCourse s u → SameCourse (run next resume w₁ script n s) (run next resume w₂ script n u)
+    -- CONTROL DOES NOT DEPEND ON THE DATA: whatever words are sent and whatever words come in, the same accesses follow
+    pub same-run : (n : ℕ) (s u : State M) → SameCourse s u → ((k : ℕ) → k < n → SameReads (run next resume w₁ x k s)) → SameCourse (run next resume w₁ x n s) (run next resume w₂ y n u)
     unfolding times
-    same-run zero s u h = h
-    same-run (suc n) s u h = same-run n (step next resume w₁ script s) (step next resume w₂ script u) (step-same s u h)
+    same-run zero s u h k = h
+    same-run (suc n) s u h k =
+        same-run n (step next resume w₁ x s) (step next resume w₂ y u) (step-same s u h (k 0 (omega arith)))
+        (λ j (l : j < n). k (suc j) (omega arith))
 
   module _ (words : List ℕ → ℕ → ℕ) where
     -- answers are used one after the other
@@ -91,6 +129,36 @@ module _ {M : Type 0} (next : M → Access) (resume : M → ℕ → M) where
           run-agrees n s′ h
           ∙ ap (times (step next resume words y) n) (step-agrees (next (s .machine)) (s .machine) (s .used) (s .log) (s .received) refl (omega (arith, run-used x n s′)))
 
+    -- A LONGER SCRIPT: what a run does with the answers it has, it does with more of them, too
+    module _ (x y : List ℕ) (more : length x ≤ length y) (agree : (i : ℕ) → i < length x → getD x i 0 ≡ getD y i 0) where
+      step-longer : (a : Access) (m : M) (n : ℕ) (l : List Logged) (r : List ℕ) → next m ≡ a
+          → length l < length (step next resume words x (record { machine = m; used = n; log = l; received = r }) .log)
+          → step next resume words x (record { machine = m; used = n; log = l; received = r }) ≡ step next resume words y (record { machine = m; used = n; log = l; received = r })
+      unfolding step moved
+      step-longer (Read g) m n l r e h = by-test (leb (length x) n) refl
+        where
+          by-test : (b : Bool) → leb (length x) n ≡ b → step next resume words x (record { machine = m; used = n; log = l; received = r }) ≡ step next resume words y (record { machine = m; used = n; log = l; received = r })
+          by-test true t = absurd (let z : length l < length l = rw (e, t) at h in omega arith)
+          by-test false t = let u = leb-false (length x) n t in rw (e, t, lt-leb (length y) n (omega arith), agree n (omega arith))
+      step-longer (Write g v) m n l r e h = rw e
+      step-longer (Send i) m n l r e h = rw e
+      step-longer (Receive i) m n l r e h = by-test (leb (length x) n) refl
+        where
+          by-test : (b : Bool) → leb (length x) n ≡ b → step next resume words x (record { machine = m; used = n; log = l; received = r }) ≡ step next resume words y (record { machine = m; used = n; log = l; received = r })
+          by-test true t = absurd (let z : length l < length l = rw (e, t) at h in omega arith)
+          by-test false t = let u = leb-false (length x) n t in rw (e, t, lt-leb (length y) n (omega arith), agree n (omega arith))
+      step-longer (Done z) m n l r e h = rw e
+
+      pub run-longer : (n : ℕ) (s : State M) → length (run next resume words x n s .log) ≡ length (s .log) + n → run next resume words x n s ≡ run next resume words y n s
+      unfolding times
+      run-longer zero s h = refl
+      run-longer (suc n) s h =
+          let s′ = step next resume words x s in
+          let one = step-log next resume words x s in
+          let rest = run-log next resume words x n s′ in
+          run-longer n s′ (omega (arith, one, rest, h))
+          ∙ ap (times (step next resume words y) n) (step-longer (next (s .machine)) (s .machine) (s .used) (s .log) (s .received) refl (omega (arith, one, rest, h)))
+
   -- THE SAME WORDS SENT give the same run
   module _ (script : List ℕ) (w₁ w₂ : List ℕ → ℕ → ℕ) (same : (rs : List ℕ) (i : ℕ) → w₁ rs i ≡ w₂ rs i) where
     value-words : (rs : List ℕ) (a : Access) (v : ℕ) → valueOf (w₁ rs) a v ≡ valueOf (w₂ rs) a v
@@ -111,3 +179,42 @@ module _ {M : Type 0} (next : M → Access) (resume : M → ℕ → M) where
     unfolding times
     run-words zero s = refl
     run-words (suc n) s = run-words n (step next resume w₁ script s) ∙ ap (times (step next resume w₂ script) n) (step-words s)
+
+-- A TRANSFER DOES NOT LOOK at the words that it receives
+abbrev receives : Access → ℕ
+receives (Read g) = 0
+receives (Write g v) = 0
+receives (Send i) = 0
+receives (Receive i) = 1
+receives (Done e) = 0
+
+poll-reads : (q : Poll) → receives (pollAccess q) ≡ 0
+poll-reads Status = refl
+poll-reads Sizes = refl
+poll-reads (Counts param) = refl
+
+move-none : (x : Move) (r : Reset) → receives (moveAccess x r) ≡ 0
+move-none (Keep k) r = refl
+move-none KeepEnabled r = refl
+move-none Look r = refl
+move-none Wait r = refl
+move-none (WriteCr c) r = refl
+move-none (Put k) r = refl
+move-none ClearErrors r = refl
+
+not-received : {A : Type 0} (a : Access) (i : ℕ) → receives a ≡ 0 → a ≡ Receive i → A
+not-received a i z e = absurd (let q : _≡_ {A = ℕ} 0 1 = sym z ∙ ap receives e in omega arith)
+
+blind-in : (p : Phase) (w : Work) (r : Reset) (i v u : ℕ) → dueAccess (at p w r) ≡ Receive i → resumed (at p w r) v ≡ resumed (at p w r) u
+unfolding dueAccess resumed
+blind-in (Space q) w r i v u e = not-received (pollAccess q) i (poll-reads q) e
+blind-in Command w r i v u e = refl
+blind-in (Sending q) w r i v u e = not-received (pollAccess q) i (poll-reads q) e
+blind-in SendPhase w r i v u e = refl
+blind-in (Receiving q) w r i v u e = not-received (pollAccess q) i (poll-reads q) e
+blind-in ReceivePhase w r i v u e = refl
+blind-in (Recovery d) w r i v u e = not-received (moveAccess (moveAt (r .place)) r) i (move-none (moveAt (r .place)) r) e
+blind-in (Ended x) w r i v u e = refl
+
+pub transfer-blind : Blind dueAccess resumed
+transfer-blind t i v u e = blind-in (t .phase) (t .work) (t .reset) i v u e

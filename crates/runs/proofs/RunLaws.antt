@@ -1,5 +1,4 @@
--- The laws of a run, for every machine: a run of a + b accesses, a machine that is halted, the count of accesses, the log, and what a run
--- depends on.
+-- The laws of a run, for every machine: a run of a + b accesses, a machine that is halted, the count of accesses, and the log.
 -- Assumes nothing.
 use Prim.Native.Nat.{ℕ, zero, suc, _+_, _*_, _<_, _≤_}
 use mathlib.Core.Bool.{Bool, true, false, cond, _||_}
@@ -50,7 +49,7 @@ module _ {M : Type 0} (next : M → Access) (resume : M → ℕ → M) (words : 
   pub run-last : (n : ℕ) (s : State M) → run next resume words script (n + 1) s ≡ step next resume words script (run next resume words script n s)
   run-last n s = ap (λ (m : ℕ). times (step next resume words script) m s) (add-one n) ∙ times-last (step next resume words script) n s
 
-  step-log : (s : State M) → length (step next resume words script s .log) ≤ length (s .log) + 1
+  pub step-log : (s : State M) → length (step next resume words script s .log) ≤ length (s .log) + 1
   unfolding step moved
   step-log s = by-test (halted (next (s .machine)) (s .used) (length script))
     where

@@ -1,3 +1,3 @@
-pub mod ExchangeBill
+pub mod CallLaws
 mod TransferLaws
 mod EntryLaws

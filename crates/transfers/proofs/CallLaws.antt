@@ -1,4 +1,5 @@
--- The access bill of the calls: the count is the one in the result.
+-- The transfers as calls: never more accesses than the budget, the bill of an Ok exchange, and the run with no limit. The counts are those in
+-- the result.
 -- Assumes nothing.
 use Prim.Native.Nat.{ℕ, _+_, _*_, _≤_, max}
 use mathlib.Core.Bool.{Bool, true, false, cond}
@@ -18,9 +19,11 @@ use Rattle.machine.specs.declared.transfer.Transfer.{Transfer}
 use Rattle.machine.specs.Driver.{driverCommand}
 use Rattle.machine.specs.Transfer.{startTransfer, endedTransfer, dueAccess, resumed}
 use Rattle.runs.specs.Run.{State, start, run, limits, endingOf, refused, ran}
-use Rattle.transfers.specs.Transfers.{Plan, begun, TransferLeft, transferred, separatePlan, inPlacePlan, exchangeSeparate, exchange}
+use Rattle.transfers.specs.Transfers.{Plan, begun, states, TransferLeft, transferred, separatePlan, inPlacePlan, exchangeSeparate, exchange}
+use Rattle.runs.specs.Unlimited.{Unlimited}
 use Rattle.runs.specs.Unready.{unreadyPolls}
-use Rattle.runs.proofs.RunLaws.{run-halted}
+use Rattle.runs.proofs.RunLaws.{run-halted, run-log}
+use Rattle.runs.proofs.Unlimited.{transfer-unlimited}
 use Rattle.runs.proofs.Bill.{ok-exactly}
 
 module _ (k : ℕ) (d : Lpspi) (p : Plan) (budget : ℕ) (script : List ℕ) where
@@ -66,6 +69,18 @@ module _ (k : ℕ) (d : Lpspi) (p : Plan) (budget : ℕ) (script : List ℕ) whe
       by-limits : (b : Bool) → leaves b buffer log .call .result .ending ≡ Ok → leaves b buffer log .call .result .accesses ≤ 4 + 4 * p .send + 4 * p .receive + 3 * waits
       by-limits true e = omega arith
       by-limits false e = inside e
+
+  -- NEVER MORE ACCESSES THAN THE BUDGET
+  pub within-budget : (buffer log : List ℕ) → transferred k d p buffer budget script log .call .result .accesses ≤ budget
+  within-budget buffer log = by-limits (limits budget log)
+    where
+      by-limits : (b : Bool) → leaves b buffer log .call .result .accesses ≤ budget
+      by-limits true = omega arith
+      by-limits false = omega (arith, run-log dueAccess resumed (p .words) script budget (start (begun k d p)))
+
+  -- WITH BUDGET ENOUGH FOR ITS SCRIPT a call leaves what its run comes to with no limit on accesses
+  pub call-unlimited : 11 * (length script + 1) ≤ budget → Unlimited dueAccess resumed (p .words) script (start (begun k d p)) (states k d p script budget)
+  call-unlimited h = transfer-unlimited (p .words) script budget (start (begun k d p)) h
 
 -- AN OK EXCHANGE of n words with w unready polls makes at most 4 + 8n + 3w accesses
 module _ (k : ℕ) (d : Lpspi) (budget : ℕ) (script log : List ℕ) where
