@@ -27,9 +27,9 @@ use Rattle.machine.specs.declared.transfer.Transfer.{Transfer}
 use Rattle.machine.specs.Poll.{failed, ready}
 use Rattle.machine.specs.Reset.{resetAfter, resetDone}
 use Rattle.machine.specs.Transfer.{at, startTransfer, sendTurn, receiveTurn, oneSent, oneReceived, spaceBy, sendingBy, receivingBy, dueAccess, resumed}
-use Rattle.runs.specs.Run.{Logged, State, start, halted, answerOf, endingOf, times, moved, step, run}
+use Rattle.runs.specs.Run.{Logged, State, start, halted, answerOf, endingOf, times, afterAccess, step, run}
 use Rattle.runs.specs.Unready.{unreadyIn, unready, unreadyPolls}
-use Rattle.runs.proofs.Places.{Turn, Placed, counted-up, placed-step, placed-run, start-placed, in-order, done-phase}
+use Rattle.runs.proofs.Places.{Standing, Placed, counted-up, placed-step, placed-run, start-placed, in-order, done-phase}
 
 -- reads of a poll that were made
 abbrev reads : Poll → ℕ
@@ -110,7 +110,7 @@ recovery-bill true d w made n = tt
 recovery-bill false d w made n = tt
 
 -- one access
-bill-on : (p : Phase) (w : Work) (r : Reset) (v made n used answers : ℕ) → halted (dueAccess (at p w r)) used answers ≡ false → Turn p w → Bill p w made n
+bill-on : (p : Phase) (w : Work) (r : Reset) (v made n used answers : ℕ) → halted (dueAccess (at p w r)) used answers ≡ false → Standing p w → Bill p w made n
     → Billed (resumed (at p w r) (answerOf (dueAccess (at p w r)) v)) (made + 1) (n + unreadyIn p v)
 unfolding dueAccess resumed
 bill-on (Space Status) w r v made n used answers l t h = space-first (failed Tx v) w made n (omega arith)
@@ -134,11 +134,11 @@ longer t l x n h = rw (length-append l (x ∷ [])) h
 module _ (script : List ℕ) (words : List ℕ → ℕ → ℕ) (send receive : ℕ) where
   bill-step : (s : State Transfer) (k : ℕ) → Placed send receive (s .machine) (length (s .received)) → Billed (s .machine) (length (s .log)) k
       → Billed (step dueAccess resumed words script s .machine) (length (step dueAccess resumed words script s .log)) (k + unready script s)
-  unfolding step moved
+  unfolding step afterAccess
   bill-step s k p h = by-test (halted (dueAccess (s .machine)) (s .used) (length script)) refl
     where
       by-test : (t : Bool) → halted (dueAccess (s .machine)) (s .used) (length script) ≡ t
-          → Billed (cond t s (moved dueAccess resumed words script (dueAccess (s .machine)) s) .machine) (length (cond t s (moved dueAccess resumed words script (dueAccess (s .machine)) s) .log))
+          → Billed (cond t s (afterAccess dueAccess resumed words script (dueAccess (s .machine)) s) .machine) (length (cond t s (afterAccess dueAccess resumed words script (dueAccess (s .machine)) s) .log))
           (k + cond t 0 (unreadyIn (s .machine .phase) (getD script (s .used) 0)))
       by-test true t = rw add-zero h
       by-test false t =

@@ -1,6 +1,6 @@
 -- The run of a transfer as the code makes it: an access more, and its end.
 -- Assumes nothing.
-use Prim.Native.Nat.{ℕ, suc, _+_, _-_, _*_, _<_, _≤_, min}
+use Prim.Native.Nat.{ℕ, _+_, _-_, _*_, _<_, _≤_, min}
 use mathlib.Core.Bool.{Bool, true, false, cond}
 use mathlib.Core.List.{List, [], _∷_, _++_}
 use mathlib.Core.Path.{_≡_, refl, sym, ap, ap₂, _∙_}
@@ -22,13 +22,13 @@ use Rattle.machine.specs.declared.access.Ending.{Ending}
 use Rattle.machine.specs.declared.access.Ending.the-variants.{Limits}
 use Rattle.machine.specs.declared.driver.Lpspi.{Lpspi}
 use Rattle.machine.specs.declared.transfer.Transfer.{Transfer}
-use Rattle.machine.specs.Transfer.{startTransfer, dueAccess, resumed}
+use Rattle.machine.specs.Transfer.{startTransfer, counted, dueAccess, resumed}
 use Rattle.runs.specs.declared.drive.Driven.{Driven}
 use Rattle.runs.specs.declared.drive.Frame.{Frame}
 use Rattle.runs.specs.declared.drive.Spot.{Spot}
 use Rattle.runs.specs.declared.turns.Count.{Count}
-use Rattle.runs.specs.Run.{Logged, placeOf, valueOf, usesOf, answerOf, receivedAfter, halted, endingOf, times, State, start, step, moved, run, limits, logOver, put}
-use Rattle.runs.specs.Drive.{wordIn, oneMore, gotAfter, wordsAfter, stored, sentFrom, states, Stands, DrivenLeft, drivenLeft, drivenBy, wordsRun}
+use Rattle.runs.specs.Run.{Logged, codeOf, valueOf, usesOf, answerOf, receivedAfter, halted, endingOf, times, State, start, step, afterAccess, run, limits, logOver, put}
+use Rattle.runs.specs.Drive.{wordIn, gotAfter, wordsAfter, stored, sentFrom, states, Stands, DrivenLeft, drivenLeft, drivenBy, wordsRun}
 use Rattle.runs.proofs.RunLaws.{run-add, run-halted, run-last, log-put}
 
 -- STORED WORDS
@@ -36,7 +36,7 @@ use Rattle.runs.proofs.RunLaws.{run-add, run-halted, run-last, log-put}
 length-last : (rs : List ℕ) (v : ℕ) → length (rs ++ (v ∷ [])) ≡ length rs + 1
 length-last rs v = length-append rs (v ∷ [])
 
-one-more : (n m : ℕ) → min (n + 1) m ≡ oneMore (min n m) m
+one-more : (n m : ℕ) → min (n + 1) m ≡ counted (min n m) m
 one-more n m = by-test (ltb (min n m) m) refl
   where
     by-test : (b : Bool) → ltb (min n m) m ≡ b → min (n + 1) m ≡ cond b (min n m + 1) (min n m)
@@ -104,12 +104,12 @@ offset-small RDR = lit< tt
 
 module _ (f : Frame) (script send old olds : List ℕ) (t : Transfer) where
   entry : Access → List ℕ → ℕ → Logged
-  entry a rs v = record { at = placeOf a; value = valueOf (sentFrom f send olds rs) a v }
+  entry a rs v = record { at = codeOf a; value = valueOf (sentFrom f send olds rs) a v }
 
   stepped : (u : Transfer) (a : Access) (n : ℕ) (l : List Logged) (rs : List ℕ) → dueAccess u ≡ a → halted a n (length script) ≡ false
       → step dueAccess resumed (sentFrom f send olds) script (record { machine = u; used = n; log = l; received = rs })
       ≡ record { machine = resumed u (answerOf a (getD script n 0)); used = n + usesOf a; log = l ++ (entry a rs (getD script n 0) ∷ []); received = receivedAfter a (getD script n 0) rs }
-  unfolding step moved entry
+  unfolding step afterAccess entry
   stepped u a n l rs e h = rw (e, h)
 
   module _ (u : Transfer) (s : Spot) (log words : List ℕ) (h : Stands f script send old olds t u s log words) where
@@ -128,18 +128,18 @@ module _ (f : Frame) (script send old olds : List ℕ) (t : Transfer) where
           ∙ stepped u a (s .used) (here .log) (here .received) due goes
           ∙ ap (λ (x : ℕ). record { machine = resumed u (answerOf a x); used = s .used + usesOf a; log = here .log ++ (entry a (here .received) x ∷ []); received = receivedAfter a x (here .received) }) (sym ev)
 
-      logged : (log′ : List ℕ) → 2 * s .made + 1 < length old → log′ ≡ put log (s .made) (placeOf a) (valueOf (wordIn f send words (s .received)) a v)
+      logged : (log′ : List ℕ) → 2 * s .made + 1 < length old → log′ ≡ put log (s .made) (codeOf a) (valueOf (wordIn f send words (s .received)) a v)
           → log′ ≡ logOver old (there .log)
       unfolding entry
       logged log′ l e =
           e
-          ∙ ap₂ (λ (w : List ℕ) (g : ℕ). put log (s .made) (placeOf a) (valueOf (wordIn f send w g) a v)) (h .placed) (sym (h .got))
-          ∙ ap₂ (λ (x : List ℕ) (m : ℕ). put x m (placeOf a) (valueOf (sentFrom f send olds (here .received)) a v)) (h .held) (sym (h .pairs))
+          ∙ ap₂ (λ (w : List ℕ) (g : ℕ). put log (s .made) (codeOf a) (valueOf (wordIn f send w g) a v)) (h .placed) (sym (h .got))
+          ∙ ap₂ (λ (x : List ℕ) (m : ℕ). put x m (codeOf a) (valueOf (sentFrom f send olds (here .received)) a v)) (h .held) (sym (h .pairs))
           ∙ log-put old (here .log) (entry a (here .received) v) (omega (arith, h .pairs))
 
       pub stands-next : (u′ : Transfer) (s′ : Spot) (log′ words′ : List ℕ) → 2 * s .made + 1 < length old → u′ ≡ resumed u (answerOf a v)
           → s′ .made ≡ s .made + 1 → s′ .used ≡ s .used + usesOf a → s′ .received ≡ gotAfter a (s .received) (length words) → length log′ ≡ length log
-          → log′ ≡ put log (s .made) (placeOf a) (valueOf (wordIn f send words (s .received)) a v) → words′ ≡ wordsAfter a words (s .received) v
+          → log′ ≡ put log (s .made) (codeOf a) (valueOf (wordIn f send words (s .received)) a v) → words′ ≡ wordsAfter a words (s .received) v
           → Stands f script send old olds t u′ s′ log′ words′
       stands-next u′ s′ log′ words′ l eu em es er en el ew =
           let e : states f script send olds t (s′ .made) ≡ there = ap (states f script send olds t) em ∙ next-state in

@@ -15,7 +15,7 @@ use Rattle.machine.specs.declared.flush.Flush.{Flush}
 use Rattle.machine.specs.declared.flush.Flush.the-variants.{Status, Sizes, Counts, Ended}
 use Rattle.machine.specs.Flush.{flushAccess, flushed}
 use Rattle.runs.specs.declared.flush.Flushed.{Flushed}
-use Rattle.runs.specs.Run.{limits, Logged, placeOf, halted, ended, endingOf, times, State, start, step, moved, run, left, logOver, put}
+use Rattle.runs.specs.Run.{limits, Logged, codeOf, halted, ended, endingOf, times, State, start, step, afterAccess, run, left, logOver, put}
 use Rattle.runs.specs.Flush.{noWords, flushStates, FlushLeft, flushLeft, flushLoop, flushRun}
 use Rattle.runs.proofs.RunLaws.{run-add, run-halted, run-last, log-put}
 
@@ -50,13 +50,13 @@ unfolding times
 at-start script old = record { machine = refl; used = refl; pairs = refl; held = refl }
 
 entry : List ℕ → Flush → ℕ → Logged
-entry script f n = record { at = placeOf (flushAccess f); value = getD script n 0 }
+entry script f n = record { at = codeOf (flushAccess f); value = getD script n 0 }
 
 -- one read
 stepped : (script : List ℕ) (f : Flush) (n : ℕ) (l : List Logged) (r : List ℕ) → ended (flushAccess f) ≡ false → n < length script
     → step flushAccess flushed noWords script (record { machine = f; used = n; log = l; received = r })
     ≡ record { machine = flushed f (getD script n 0); used = n + 1; log = l ++ (entry script f n ∷ []); received = r }
-unfolding step moved entry
+unfolding step afterAccess entry
 stepped script Status n l r e h = rw (lt-leb (length script) n h)
 stepped script Sizes n l r e h = rw (lt-leb (length script) n h)
 stepped script Counts n l r e h = rw (lt-leb (length script) n h)
@@ -75,7 +75,7 @@ module _ (script old : List ℕ) (n : ℕ) (f : Flush) (log : List ℕ) (a : At 
 
   -- THE LOOP: one turn
   pub at-next : (g : Flush) (v : ℕ) (log′ : List ℕ) → ended (flushAccess f) ≡ false → n < length script → 2 * n + 1 < length old
-      → v ≡ getD script n 0 → log′ ≡ put log n (placeOf (flushAccess f)) (getD script n 0) → g ≡ flushed f v → At script old (n + 1) g log′
+      → v ≡ getD script n 0 → log′ ≡ put log n (codeOf (flushAccess f)) (getD script n 0) → g ≡ flushed f v → At script old (n + 1) g log′
   unfolding entry
   at-next g v log′ e h l ev el eg =
       let s = next-state e h in
@@ -85,7 +85,7 @@ module _ (script old : List ℕ) (n : ℕ) (f : Flush) (log : List ℕ) (a : At 
         used = ap (λ (x : State Flush). x .used) s;
         pairs = ap (λ (x : State Flush). length (x .log)) s ∙ p;
         held = el
-            ∙ ap₂ (λ (x : List ℕ) (m : ℕ). put x m (placeOf (flushAccess f)) (getD script n 0)) (a .held) (sym (a .pairs))
+            ∙ ap₂ (λ (x : List ℕ) (m : ℕ). put x m (codeOf (flushAccess f)) (getD script n 0)) (a .held) (sym (a .pairs))
             ∙ log-put old (now .log) (entry script f n) (omega (arith, a .pairs))
             ∙ ap (λ (x : State Flush). logOver old (x .log)) (sym s);
       }
@@ -134,7 +134,7 @@ one-more n l x h = omega (arith, length-append l (x ∷ []))
 
 used-step : (script : List ℕ) (f : Flush) (n : ℕ) (l : List Logged) (r : List ℕ) → n ≡ length l
     → AsMany (step flushAccess flushed noWords script (record { machine = f; used = n; log = l; received = r }))
-unfolding step moved
+unfolding step afterAccess
 used-step script Status n l r h = by-cond (leb (length script) n) _ _ (record { equal = h }) (record { equal = one-more n l _ h })
 used-step script Sizes n l r h = by-cond (leb (length script) n) _ _ (record { equal = h }) (record { equal = one-more n l _ h })
 used-step script Counts n l r h = by-cond (leb (length script) n) _ _ (record { equal = h }) (record { equal = one-more n l _ h })

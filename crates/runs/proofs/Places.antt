@@ -30,7 +30,7 @@ use Rattle.machine.specs.declared.transfer.Transfer.{Transfer}
 use Rattle.machine.specs.Poll.{pollAccess, polled}
 use Rattle.machine.specs.Reset.{moveAt, moveAccess, resetAfter, resetDone}
 use Rattle.machine.specs.Transfer.{at, startTransfer, sendTurn, receiveTurn, counted, oneSent, oneReceived, spaceBy, sendingBy, receivingBy, dueAccess, resumed}
-use Rattle.runs.specs.Run.{State, start, halted, answerOf, receivedAfter, times, moved, step, run}
+use Rattle.runs.specs.Run.{State, start, halted, answerOf, receivedAfter, times, afterAccess, step, run}
 
 -- what a phase knows: no word is done before TCR, a side that has its turn has words left, and Ok comes when all are done
 abbrev Final : Ending → Work → Type 0
@@ -41,15 +41,15 @@ Final Limits w = Unit {0}
 Final ZeroClock w = Unit {0}
 Final FifoExponent w = Unit {0}
 
-abbrev pub Turn : Phase → Work → Type 0
-Turn (Space p) w = (w .sent ≡ 0) × (w .received ≡ 0)
-Turn Command w = (w .sent ≡ 0) × (w .received ≡ 0)
-Turn (Sending p) w = w .sent < w .send
-Turn Send w = w .sent < w .send
-Turn (Receiving p) w = w .received < w .receive
-Turn Receive w = w .received < w .receive
-Turn (Recovery d) w = Unit {0}
-Turn (Ended e) w = Final e w
+abbrev pub Standing : Phase → Work → Type 0
+Standing (Space p) w = (w .sent ≡ 0) × (w .received ≡ 0)
+Standing Command w = (w .sent ≡ 0) × (w .received ≡ 0)
+Standing (Sending p) w = w .sent < w .send
+Standing Send w = w .sent < w .send
+Standing (Receiving p) w = w .received < w .receive
+Standing Receive w = w .received < w .receive
+Standing (Recovery d) w = Unit {0}
+Standing (Ended e) w = Final e w
 
 -- a transfer of `send` and `receive` words, of which `held` have been received
 pub record Placed (send receive : ℕ) (t : Transfer) (held : ℕ) : Type 0 where
@@ -58,43 +58,43 @@ pub record Placed (send receive : ℕ) (t : Transfer) (held : ℕ) : Type 0 wher
   pub sent : t .work .sent ≤ send
   pub received : t .work .received ≤ receive
   pub holds : held ≡ t .work .received
-  pub turn : Turn (t .phase) (t .work)
+  pub turn : Standing (t .phase) (t .work)
 
-send-turn : (w : Work) → w .sent ≤ w .send → w .received ≤ w .receive → Turn (sendTurn w) w
+send-turn : (w : Work) → w .sent ≤ w .send → w .received ≤ w .receive → Standing (sendTurn w) w
 send-turn w s r = by-test (ltb (w .sent) (w .send)) refl (ltb (w .received) (w .receive)) refl
   where
-    by-test : (t : Bool) → ltb (w .sent) (w .send) ≡ t → (u : Bool) → ltb (w .received) (w .receive) ≡ u → Turn (cond t (Sending Status) (cond u (Receiving Status) (Ended Ok))) w
+    by-test : (t : Bool) → ltb (w .sent) (w .send) ≡ t → (u : Bool) → ltb (w .received) (w .receive) ≡ u → Standing (cond t (Sending Status) (cond u (Receiving Status) (Ended Ok))) w
     by-test true t u e = ltb-true (w .sent) (w .send) t
     by-test false t true e = ltb-true (w .received) (w .receive) e
     by-test false t false e = omega (arith, ltb-false (w .sent) (w .send) t, ltb-false (w .received) (w .receive) e)
 
-receive-turn : (w : Work) → w .sent ≤ w .send → w .received ≤ w .receive → Turn (receiveTurn w) w
+receive-turn : (w : Work) → w .sent ≤ w .send → w .received ≤ w .receive → Standing (receiveTurn w) w
 receive-turn w s r = by-test (ltb (w .received) (w .receive)) refl (ltb (w .sent) (w .send)) refl
   where
-    by-test : (t : Bool) → ltb (w .received) (w .receive) ≡ t → (u : Bool) → ltb (w .sent) (w .send) ≡ u → Turn (cond t (Receiving Status) (cond u (Sending Status) (Ended Ok))) w
+    by-test : (t : Bool) → ltb (w .received) (w .receive) ≡ t → (u : Bool) → ltb (w .sent) (w .send) ≡ u → Standing (cond t (Receiving Status) (cond u (Sending Status) (Ended Ok))) w
     by-test true t u e = ltb-true (w .received) (w .receive) t
     by-test false t true e = ltb-true (w .sent) (w .send) e
     by-test false t false e = omega (arith, ltb-false (w .received) (w .receive) t, ltb-false (w .sent) (w .send) e)
 
-space-turn : (x : Polled) (w : Work) → Turn Command w → Turn (spaceBy x) w
+space-turn : (x : Polled) (w : Work) → Standing Command w → Standing (spaceBy x) w
 space-turn Failed w h = tt
 space-turn (Next p) w h = h
 space-turn Ready w h = h
 space-turn Unready w h = h
 
-sending-turn : (x : Polled) (w : Work) → w .sent ≤ w .send → w .received ≤ w .receive → Turn Send w → Turn (sendingBy w x) w
+sending-turn : (x : Polled) (w : Work) → w .sent ≤ w .send → w .received ≤ w .receive → Standing Send w → Standing (sendingBy w x) w
 sending-turn Failed w s r h = tt
 sending-turn (Next p) w s r h = h
 sending-turn Ready w s r h = h
 sending-turn Unready w s r h = receive-turn w s r
 
-receiving-turn : (x : Polled) (w : Work) → w .sent ≤ w .send → w .received ≤ w .receive → Turn Receive w → Turn (receivingBy w x) w
+receiving-turn : (x : Polled) (w : Work) → w .sent ≤ w .send → w .received ≤ w .receive → Standing Receive w → Standing (receivingBy w x) w
 receiving-turn Failed w s r h = tt
 receiving-turn (Next p) w s r h = h
 receiving-turn Ready w s r h = h
 receiving-turn Unready w s r h = send-turn w s r
 
-recovery-turn : (t : Bool) (d : Direction) (w : Work) → Turn (cond t (Ended (Err (Fifo d))) (Recovery d)) w
+recovery-turn : (t : Bool) (d : Direction) (w : Work) → Standing (cond t (Ended (Err (Fifo d))) (Recovery d)) w
 recovery-turn true d w = tt
 recovery-turn false d w = tt
 
@@ -122,7 +122,7 @@ move-keeps ClearErrors s v rs = refl
 
 module _ (send receive : ℕ) where
   -- the same words done: another phase
-  on : (p q : Phase) (w : Work) (r u : Reset) (n : ℕ) → Placed send receive (at p w r) n → (w .sent ≤ w .send → w .received ≤ w .receive → Turn p w → Turn q w) → Placed send receive (at q w u) n
+  on : (p q : Phase) (w : Work) (r u : Reset) (n : ℕ) → Placed send receive (at p w r) n → (w .sent ≤ w .send → w .received ≤ w .receive → Standing p w → Standing q w) → Placed send receive (at q w u) n
   on p q w r u n h k =
       record {
         toSend = h .toSend;
@@ -166,10 +166,10 @@ module _ (send receive : ℕ) where
   module _ (words : List ℕ → ℕ → ℕ) (script : List ℕ) where
     pub placed-step : (s : State Transfer) → Placed send receive (s .machine) (length (s .received))
         → Placed send receive (step dueAccess resumed words script s .machine) (length (step dueAccess resumed words script s .received))
-    unfolding step moved
+    unfolding step afterAccess
     placed-step s h = by-test (halted (dueAccess (s .machine)) (s .used) (length script))
       where
-        by-test : (t : Bool) → Placed send receive (cond t s (moved dueAccess resumed words script (dueAccess (s .machine)) s) .machine) (length (cond t s (moved dueAccess resumed words script (dueAccess (s .machine)) s) .received))
+        by-test : (t : Bool) → Placed send receive (cond t s (afterAccess dueAccess resumed words script (dueAccess (s .machine)) s) .machine) (length (cond t s (afterAccess dueAccess resumed words script (dueAccess (s .machine)) s) .received))
         by-test true = h
         by-test false =
             placed-on (s .machine .phase) (s .machine .work) (s .machine .reset) (answerOf (dueAccess (s .machine)) (getD script (s .used) 0)) (getD script (s .used) 0) (s .received) h
@@ -213,7 +213,7 @@ move-kind (WriteCr c) s = omega arith
 move-kind (Put k) s = omega arith
 move-kind ClearErrors s = omega arith
 
-due-send : (p : Phase) (w : Work) (r : Reset) (i : ℕ) → Turn p w → dueAccess (at p w r) ≡ SendWord i → (i ≡ w .sent) × (i < w .send)
+due-send : (p : Phase) (w : Work) (r : Reset) (i : ℕ) → Standing p w → dueAccess (at p w r) ≡ SendWord i → (i ≡ w .sent) × (i < w .send)
 unfolding dueAccess
 due-send (Space p) w r i h e = absurd (omega (arith, poll-kind p, ap kind e))
 due-send Command w r i h e = absurd (omega (arith, ap kind e))
@@ -224,7 +224,7 @@ due-send Receive w r i h e = absurd (omega (arith, ap kind e))
 due-send (Recovery d) w r i h e = absurd (omega (arith, move-kind (moveAt (r .place)) r, ap kind e))
 due-send (Ended x) w r i h e = absurd (omega (arith, ap kind e))
 
-due-receive : (p : Phase) (w : Work) (r : Reset) (i : ℕ) → Turn p w → dueAccess (at p w r) ≡ ReceiveWord i → (i ≡ w .received) × (i < w .receive)
+due-receive : (p : Phase) (w : Work) (r : Reset) (i : ℕ) → Standing p w → dueAccess (at p w r) ≡ ReceiveWord i → (i ≡ w .received) × (i < w .receive)
 unfolding dueAccess
 due-receive (Space p) w r i h e = absurd (omega (arith, poll-kind p, ap kind e))
 due-receive Command w r i h e = absurd (omega (arith, ap kind e))
@@ -260,7 +260,7 @@ in-order send receive s h =
       held = h .holds;
       sends = λ (i : ℕ) (e : dueAccess (s .machine) ≡ SendWord i). omega (arith, due-send p w r i (h .turn) e);
       receives = λ (i : ℕ) (e : dueAccess (s .machine) ≡ ReceiveWord i). omega (arith, due-receive p w r i (h .turn) e);
-      all = λ (e : dueAccess (s .machine) ≡ Done Ok). omega (arith, subst (λ (q : Phase). Turn q w) (done-phase p w r Ok e) (h .turn));
+      all = λ (e : dueAccess (s .machine) ≡ Done Ok). omega (arith, subst (λ (q : Phase). Standing q w) (done-phase p w r Ok e) (h .turn));
     }
 
 pub start-placed : (d : Lpspi) (command send receive : ℕ) → Placed send receive (startTransfer d command send receive) 0

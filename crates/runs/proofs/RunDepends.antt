@@ -4,10 +4,10 @@
 use Prim.Native.Nat.{ℕ, zero, suc, _+_, _<_, _≤_}
 use mathlib.Core.Bool.{Bool, true, false, cond}
 use mathlib.Core.List.{List, [], _∷_, _++_}
-use mathlib.Core.Path.{_≡_, refl, sym, ap, ap₂, _∙_, subst}
+use mathlib.Core.Path.{_≡_, refl, sym, ap, _∙_, subst}
 use native.Mathlib.Omega.{arith}
 use lib.Dec.{leb}
-use lib.ListN.{length, getD, length-append}
+use lib.ListN.{length, getD}
 use borrow.Author.Tests.{lt-leb, leb-false}
 use Rattle.manual.specs.declared.Register.{Register}
 use Rattle.machine.specs.declared.access.Access.{Access}
@@ -23,24 +23,24 @@ use Rattle.machine.specs.declared.transfer.Work.{Work}
 use Rattle.machine.specs.Poll.{pollAccess}
 use Rattle.machine.specs.Reset.{moveAt, moveAccess}
 use Rattle.machine.specs.Transfer.{at, dueAccess, resumed}
-use Rattle.runs.specs.Run.{Logged, placeOf, valueOf, usesOf, answerOf, receivedAfter, halted, times, State, moved, step, run}
+use Rattle.runs.specs.Run.{Logged, codeOf, valueOf, usesOf, answerOf, receivedAfter, halted, times, State, afterAccess, step, run}
 use Rattle.runs.proofs.RunLaws.{step-log, run-log}
 
--- the places of the accesses made
-abbrev pub places : List Logged → List ℕ
-places [] = []
-places (a ∷ l) = a .at ∷ places l
+-- the accesses made: which register, read or written
+abbrev pub codes : List Logged → List ℕ
+codes [] = []
+codes (a ∷ l) = a .at ∷ codes l
 
-places-last : (l : List Logged) (a : Logged) → places (l ++ (a ∷ [])) ≡ places l ++ (a .at ∷ [])
-places-last [] a = refl
-places-last (b ∷ l) a = ap (λ (x : List ℕ). b .at ∷ x) (places-last l a)
+codes-last : (l : List Logged) (a : Logged) → codes (l ++ (a ∷ [])) ≡ codes l ++ (a .at ∷ [])
+codes-last [] a = refl
+codes-last (b ∷ l) a = ap (λ (x : List ℕ). b .at ∷ x) (codes-last l a)
 
 module _ {M : Type 0} (next : M → Access) (resume : M → ℕ → M) where
   -- the same machine, answers used and registers accessed, in order
   pub record SameCourse (s u : State M) : Type 0 where
     pub machine : s .machine ≡ u .machine
     pub used : s .used ≡ u .used
-    pub accessed : places (s .log) ≡ places (u .log)
+    pub accessed : codes (s .log) ≡ codes (u .log)
 
   -- a machine that does not look at the words that it receives
   abbrev pub Blind : Type 0
@@ -62,13 +62,13 @@ module _ {M : Type 0} (next : M → Access) (resume : M → ℕ → M) where
     told (Receive i) m n e h = blind m i (getD x n 0) (getD y n 0) e
     told (Done z) m n e h = refl
 
-    same-step : (m : M) (n : ℕ) (l₁ l₂ : List Logged) (r₁ r₂ : List ℕ) → places l₁ ≡ places l₂ → ((g : Register) → next m ≡ Read g → getD x n 0 ≡ getD y n 0)
+    same-step : (m : M) (n : ℕ) (l₁ l₂ : List Logged) (r₁ r₂ : List ℕ) → codes l₁ ≡ codes l₂ → ((g : Register) → next m ≡ Read g → getD x n 0 ≡ getD y n 0)
         → SameCourse (step next resume w₁ x (record { machine = m; used = n; log = l₁; received = r₁ })) (step next resume w₂ y (record { machine = m; used = n; log = l₂; received = r₂ }))
-    unfolding step moved
+    unfolding step afterAccess
     same-step m n l₁ l₂ r₁ r₂ h k =
         rw (ap (halted (next m) n) same-length)
         (same-cond (halted (next m) n (length y)) _ _ _ _ (record { machine = refl; used = refl; accessed = h })
-        (record { machine = told (next m) m n refl k; used = refl; accessed = places-last l₁ _ ∙ ap (λ (z : List ℕ). z ++ (placeOf (next m) ∷ [])) h ∙ sym (places-last l₂ _) }))
+        (record { machine = told (next m) m n refl k; used = refl; accessed = codes-last l₁ _ ∙ ap (λ (z : List ℕ). z ++ (codeOf (next m) ∷ [])) h ∙ sym (codes-last l₂ _) }))
 
     step-same : (s u : State M) → SameCourse s u → SameReads s → SameCourse (step next resume w₁ x s) (step next resume w₂ y u)
     step-same s u h k =
@@ -87,10 +87,10 @@ module _ {M : Type 0} (next : M → Access) (resume : M → ℕ → M) where
   module _ (words : List ℕ → ℕ → ℕ) where
     -- answers are used one after the other
     step-used : (script : List ℕ) (s : State M) → s .used ≤ step next resume words script s .used
-    unfolding step moved
+    unfolding step afterAccess
     step-used script s = by-test (halted (next (s .machine)) (s .used) (length script))
       where
-        by-test : (t : Bool) → s .used ≤ cond t s (moved next resume words script (next (s .machine)) s) .used
+        by-test : (t : Bool) → s .used ≤ cond t s (afterAccess next resume words script (next (s .machine)) s) .used
         by-test true = omega arith
         by-test false = omega arith
 
@@ -103,7 +103,7 @@ module _ {M : Type 0} (next : M → Access) (resume : M → ℕ → M) where
       -- one access that leaves the answers from k on untouched
       step-agrees : (a : Access) (m : M) (n : ℕ) (l : List Logged) (r : List ℕ) → next m ≡ a → step next resume words x (record { machine = m; used = n; log = l; received = r }) .used ≤ k
           → step next resume words x (record { machine = m; used = n; log = l; received = r }) ≡ step next resume words y (record { machine = m; used = n; log = l; received = r })
-      unfolding step moved
+      unfolding step afterAccess
       step-agrees (Read g) m n l r e h =
           let u : n ≤ k = omega (arith, step-used x (record { machine = m; used = n; log = l; received = r })) in
           let fx = lt-leb (length x) n (omega arith) in
@@ -134,7 +134,7 @@ module _ {M : Type 0} (next : M → Access) (resume : M → ℕ → M) where
       step-longer : (a : Access) (m : M) (n : ℕ) (l : List Logged) (r : List ℕ) → next m ≡ a
           → length l < length (step next resume words x (record { machine = m; used = n; log = l; received = r }) .log)
           → step next resume words x (record { machine = m; used = n; log = l; received = r }) ≡ step next resume words y (record { machine = m; used = n; log = l; received = r })
-      unfolding step moved
+      unfolding step afterAccess
       step-longer (Read g) m n l r e h = by-test (leb (length x) n) refl
         where
           by-test : (b : Bool) → leb (length x) n ≡ b → step next resume words x (record { machine = m; used = n; log = l; received = r }) ≡ step next resume words y (record { machine = m; used = n; log = l; received = r })
@@ -169,11 +169,11 @@ module _ {M : Type 0} (next : M → Access) (resume : M → ℕ → M) where
     value-words rs (Done e) v = refl
 
     step-words : (s : State M) → step next resume w₁ script s ≡ step next resume w₂ script s
-    unfolding step moved
+    unfolding step afterAccess
     step-words s =
         let a = next (s .machine) in
         let v = getD script (s .used) 0 in
-        ap (λ (x : ℕ). cond (halted a (s .used) (length script)) s (record { machine = resume (s .machine) (answerOf a v); used = s .used + usesOf a; log = s .log ++ (record { at = placeOf a; value = x } ∷ []); received = receivedAfter a v (s .received) })) (value-words (s .received) a v)
+        ap (λ (x : ℕ). cond (halted a (s .used) (length script)) s (record { machine = resume (s .machine) (answerOf a v); used = s .used + usesOf a; log = s .log ++ (record { at = codeOf a; value = x } ∷ []); received = receivedAfter a v (s .received) })) (value-words (s .received) a v)
 
     pub run-words : (n : ℕ) (s : State M) → run next resume w₁ script n s ≡ run next resume w₂ script n s
     unfolding times

@@ -12,7 +12,7 @@ use lib.ListN.{length, getD, set, drop, length-append}
 use borrow.Author.Tests.{ltb-false}
 use lib.Seq.{drop-cons, set-at, append-snoc}
 use Rattle.machine.specs.declared.access.Access.{Access}
-use Rattle.runs.specs.Run.{Logged, flat, placeOf, valueOf, usesOf, answerOf, receivedAfter, halted, times, State, moved, step, run, limits, logOver, put}
+use Rattle.runs.specs.Run.{Logged, flat, codeOf, valueOf, halted, times, State, afterAccess, step, run, limits, logOver, put}
 
 -- STEPS
 
@@ -50,12 +50,12 @@ module _ {M : Type 0} (next : M → Access) (resume : M → ℕ → M) (words : 
   run-last n s = ap (λ (m : ℕ). times (step next resume words script) m s) (add-one n) ∙ times-last (step next resume words script) n s
 
   pub step-log : (s : State M) → length (step next resume words script s .log) ≤ length (s .log) + 1
-  unfolding step moved
+  unfolding step afterAccess
   step-log s = by-test (halted (next (s .machine)) (s .used) (length script))
     where
-      by-test : (t : Bool) → length (cond t s (moved next resume words script (next (s .machine)) s) .log) ≤ length (s .log) + 1
+      by-test : (t : Bool) → length (cond t s (afterAccess next resume words script (next (s .machine)) s) .log) ≤ length (s .log) + 1
       by-test true = omega arith
-      by-test false = omega (arith, length-append (s .log) (record { at = placeOf (next (s .machine)); value = valueOf (words (s .received)) (next (s .machine)) (getD script (s .used) 0) } ∷ []))
+      by-test false = omega (arith, length-append (s .log) (record { at = codeOf (next (s .machine)); value = valueOf (words (s .received)) (next (s .machine)) (getD script (s .used) 0) } ∷ []))
 
   -- NEVER MORE ACCESSES THAN THE BUDGET
   pub run-log : (n : ℕ) (s : State M) → length (run next resume words script n s .log) ≤ length (s .log) + n

@@ -11,7 +11,7 @@ use lib.ListN.{length}
 use borrow.Author.Tests.{leb-false}
 use Rattle.machine.specs.declared.access.Access.{Access}
 use Rattle.machine.specs.declared.access.Access.the-variants.{Read, Write, Send, Receive, Done}
-use Rattle.runs.specs.Run.{State, halted, ended, usesOf, times, moved, step, run}
+use Rattle.runs.specs.Run.{State, halted, ended, usesOf, times, afterAccess, step, run}
 use Rattle.runs.specs.Unlimited.{Unlimited}
 use Rattle.runs.proofs.RunLaws.{run-add, run-halted}
 
@@ -39,7 +39,7 @@ module _ {M : Type 0} (next : M → Access) (resume : M → ℕ → M) (words : 
   halts s = halted (next (s .machine)) (s .used) (length script)
 
   abbrev after : State M → State M
-  after s = moved next resume words script (next (s .machine)) s
+  after s = afterAccess next resume words script (next (s .machine)) s
 
   -- the machine makes at most c writes in a row: `pending` of them are due
   module _ (pending : M → ℕ) (c : ℕ) (most : (m : M) → pending m ≤ c)
@@ -56,8 +56,8 @@ module _ {M : Type 0} (next : M → Access) (resume : M → ℕ → M) (words : 
     after-write : (s : State M) → pending (resume (s .machine) 0) < pending (s .machine) → (c + 1) * (length script - (s .used + 0)) + pending (resume (s .machine) 0) < due s
     after-write s h = rw add-zero (omega arith)
 
-    due-moved : (a : Access) (s : State M) → next (s .machine) ≡ a → halted a (s .used) (length script) ≡ false → due (moved next resume words script a s) < due s
-    unfolding moved
+    due-moved : (a : Access) (s : State M) → next (s .machine) ≡ a → halted a (s .used) (length script) ≡ false → due (afterAccess next resume words script a s) < due s
+    unfolding afterAccess
     due-moved (Read g) s e h = after-read s _ (leb-false (length script) (s .used) h)
     due-moved (Write g v) s e h = after-write s (fewer (s .machine) (ap ended e) (ap usesOf e))
     due-moved (Send i) s e h = after-write s (fewer (s .machine) (ap ended e) (ap usesOf e))

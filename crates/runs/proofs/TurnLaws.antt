@@ -1,9 +1,9 @@
 -- Whole turns stay with the run: the three reads of a poll, said once over the phase that holds the poll, and the access after it.
 -- Assumes nothing.
-use Prim.Native.Nat.{ℕ, suc, _+_, _*_, _<_, _≤_}
+use Prim.Native.Nat.{ℕ, _+_, _*_, _<_, _≤_}
 use mathlib.Core.Bool.{Bool, true, false, cond, not}
 use mathlib.Core.List.{List}
-use mathlib.Core.Path.{_≡_, refl, sym, ap, ap₂, _∙_, subst}
+use mathlib.Core.Path.{_≡_, refl, sym, ap, _∙_, subst}
 use native.Mathlib.Nat.{add-zero}
 use native.Mathlib.Omega.{arith}
 use lib.Dec.{ltb}
@@ -20,21 +20,20 @@ use Rattle.machine.specs.declared.poll.Poll.{Poll}
 use Rattle.machine.specs.declared.poll.Poll.the-variants.{Status, Sizes, Counts}
 use Rattle.machine.specs.declared.reset.Reset.{Reset}
 use Rattle.machine.specs.declared.transfer.Phase.{Phase}
-use Rattle.machine.specs.declared.transfer.Phase.the-variants.{Space, Command, Sending, Send, Receiving, Receive, Ended}
+use Rattle.machine.specs.declared.transfer.Phase.the-variants.{Space, Command, Sending, Send, Receiving, Receive}
 use Rattle.machine.specs.declared.transfer.Work.{Work}
 use Rattle.machine.specs.declared.transfer.Transfer.{Transfer}
-use Rattle.machine.specs.Poll.{pollAccess, failed, ready}
-use Rattle.machine.specs.Transfer.{at, worked, turnAt, turnOf, sendTurn, receiveTurn, startTransfer, dueAccess, resumed}
+use Rattle.machine.specs.Poll.{pollAccess, ready}
+use Rattle.machine.specs.Transfer.{at, counted, worked, turnAt, sendTurn, receiveTurn, startTransfer, dueAccess, resumed}
 use Rattle.runs.specs.declared.drive.Frame.{Frame}
-use Rattle.runs.specs.declared.drive.Spot.{Spot}
 use Rattle.runs.specs.declared.turns.Count.{Count}
 use Rattle.runs.specs.declared.turns.Turns.{Turns}
-use Rattle.runs.specs.declared.turns.Look.{Look}
+use Rattle.runs.specs.declared.turns.Shown.{Shown}
 use Rattle.runs.specs.declared.turns.Spaced.{Spaced}
 use Rattle.runs.specs.declared.turns.Turn.{Turn}
 use Rattle.runs.specs.declared.turns.Turn.the-variants.{Made}
 use Rattle.runs.specs.Run.{put}
-use Rattle.runs.specs.Drive.{wordIn, oneMore, Stands}
+use Rattle.runs.specs.Drive.{wordIn, Stands}
 use Rattle.runs.specs.Turns.{spot, putPoll, Whole, Looked, otherSide, hasMore, dueSide, Within, Onward, Turned, Waited}
 use Rattle.runs.proofs.DriveLaws.{stands-next, stands-start}
 
@@ -206,11 +205,11 @@ module _ (f : Frame) (script send : List ℕ) (n : Count) (budget : ℕ) (t : Tu
 
   pub made-receives : (log″ words′ : List ℕ) → t .side ≡ Rx → ltb (t .spot .received) (n .receive) ≡ true → n .receive ≤ length words → Whole Rx (t .spot .made) (t .spot .used) budget script log log′ true
       → log″ ≡ put log′ (t .spot .made + 3) (offsetOf RDR) (getD script (t .spot .used + 3) 0) → words′ ≡ set words (t .spot .received) (getD script (t .spot .used + 3) 0)
-      → Turned f script send n budget t log words log″ words′ (Made (record { side = t .side; sent = t .sent; spot = spot (t .spot .made + 4) (t .spot .used + 4) (oneMore (t .spot .received) (length words)) }))
+      → Turned f script send n budget t log words log″ words′ (Made (record { side = t .side; sent = t .sent; spot = spot (t .spot .made + 4) (t .spot .used + 4) (counted (t .spot .received) (length words)) }))
   made-receives log″ words′ es e places whole el ew =
       let got = t .spot .received in
       let place : got < length words = omega (arith, ltb-true got (n .receive) e) in
-      let one : oneMore got (length words) ≡ got + 1 = rw (lt-ltb got (length words) place) in
+      let one : counted got (length words) ≡ got + 1 = rw (lt-ltb got (length words) place) in
       rw one (
         omega arith,
         record { made = omega (arith, whole .room); used = omega (arith, in′ .used); sent = omega (arith, in′ .sent); received = omega (arith, place) },
@@ -235,7 +234,7 @@ pub within-passed : (n : Count) (budget places : ℕ) (u v : Turns) → v ≡ re
 within-passed n budget places u v e h =
     subst (Within budget places) (sym e) (record { made = h .made; used = h .used; sent = h .sent; received = h .received })
 
-pub as-look : (d : Direction) (made used budget : ℕ) (script log log′ : List ℕ) (r r′ : Look) → r ≡ r′ → Looked d made used budget script log log′ r → Looked d made used budget script log log′ r′
+pub as-look : (d : Direction) (made used budget : ℕ) (script log log′ : List ℕ) (r r′ : Shown) → r ≡ r′ → Looked d made used budget script log log′ r → Looked d made used budget script log log′ r′
 as-look d made used budget script log log′ r r′ e h = subst (Looked d made used budget script log log′) e h
 
 pub not-false : (b : Bool) → not b ≡ false → b ≡ true

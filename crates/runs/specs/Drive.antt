@@ -2,7 +2,7 @@
 -- (crate transfers).
 -- Assumes nothing.
 use Prim.Native.Nat.{ℕ, _+_, min}
-use mathlib.Core.Bool.{Bool, cond, _&&_}
+use mathlib.Core.Bool.{cond, _&&_}
 use mathlib.Core.List.{List}
 use mathlib.Core.Path.{_≡_}
 use lib.Dec.{ltb}
@@ -15,7 +15,7 @@ use Rattle.machine.specs.declared.access.Access.the-variants.{Read, Write, Send
 use Rattle.machine.specs.declared.driver.Lpspi.{Lpspi}
 use Rattle.machine.specs.declared.transfer.Transfer.{Transfer}
 use Rattle.machine.specs.declared.access.Ending.the-variants.{Limits}
-use Rattle.machine.specs.Transfer.{startTransfer, dueAccess, resumed}
+use Rattle.machine.specs.Transfer.{startTransfer, counted, dueAccess, resumed}
 use Rattle.runs.specs.declared.drive.Frame.{Frame}
 use Rattle.runs.specs.declared.drive.Spot.{Spot}
 use Rattle.runs.specs.declared.drive.Driven.{Driven}
@@ -29,14 +29,11 @@ wordIn f send words got i =
     cond (f .inplace && ltb i got) (cutWord (widthBits (f .width)) (f .total) i (getD words i 0)) (getD send i 0)
 
 -- a received word is stored after the `got` words before it, if there is a place
-abbrev pub oneMore : ℕ → ℕ → ℕ
-oneMore got places = cond (ltb got places) (got + 1) got
-
 abbrev pub gotAfter : Access → ℕ → ℕ → ℕ
 gotAfter (Read r) got places = got
 gotAfter (Write r w) got places = got
 gotAfter (Send i) got places = got
-gotAfter (Receive i) got places = oneMore got places
+gotAfter (Receive i) got places = counted got places
 gotAfter (Done e) got places = got
 
 abbrev pub wordsAfter : Access → List ℕ → ℕ → ℕ → List ℕ

@@ -2,14 +2,14 @@
 -- Assumes nothing.
 use Prim.Native.Nat.{ℕ}
 use mathlib.Core.Bool.{cond}
-use mathlib.Core.List.{List, []}
+use mathlib.Core.List.{List}
 use lib.ListN.{length}
 use Rattle.machine.specs.declared.driver.Lpspi.{Lpspi}
 use Rattle.machine.specs.declared.flush.Flush.{Flush}
 use Rattle.machine.specs.declared.flush.Flush.the-variants.{Status}
 use Rattle.machine.specs.Flush.{flushAccess, flushed}
 use Rattle.runs.specs.declared.flush.Flushed.{Flushed}
-use Rattle.runs.specs.Run.{State, Left, left, limits, refused, run, start, endingOf, logOver, ran}
+use Rattle.runs.specs.Run.{State, Left, limits, refused, run, start, endingOf, logOver, ran}
 
 -- a flush sends no word
 abbrev pub noWords : List ℕ → ℕ → ℕ

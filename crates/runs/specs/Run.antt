@@ -29,12 +29,12 @@ abbrev pub flat : List Logged → List ℕ
 flat [] = []
 flat (a ∷ l) = a .at ∷ a .value ∷ flat l
 
-abbrev pub placeOf : Access → ℕ
-placeOf (Read r) = offsetOf r
-placeOf (Write r v) = 0x1000 + offsetOf r
-placeOf (Send i) = 0x1000 + offsetOf TDR
-placeOf (Receive i) = offsetOf RDR
-placeOf (Done e) = 0
+abbrev pub codeOf : Access → ℕ
+codeOf (Read r) = offsetOf r
+codeOf (Write r v) = 0x1000 + offsetOf r
+codeOf (Send i) = 0x1000 + offsetOf TDR
+codeOf (Receive i) = offsetOf RDR
+codeOf (Done e) = 0
 
 -- the value: the answer v of a read, what is written, or the FIFO word that is sent
 abbrev pub valueOf : (ℕ → ℕ) → Access → ℕ → ℕ
@@ -101,19 +101,19 @@ start m = record { machine = m; used = 0; log = []; received = [] }
 -- `words` gives the FIFO word that is sent at a place, by the words received so far
 module _ {M : Type 0} (next : M → Access) (resume : M → ℕ → M) (words : List ℕ → ℕ → ℕ) (script : List ℕ) where
   -- after the access a
-  unfoldable pub moved : Access → State M → State M
-  moved a s =
+  unfoldable pub afterAccess : Access → State M → State M
+  afterAccess a s =
       let v = getD script (s .used) 0 in
       record {
         machine = resume (s .machine) (answerOf a v);
         used = s .used + usesOf a;
-        log = s .log ++ (record { at = placeOf a; value = valueOf (words (s .received)) a v } ∷ []);
+        log = s .log ++ (record { at = codeOf a; value = valueOf (words (s .received)) a v } ∷ []);
         received = receivedAfter a v (s .received);
       }
 
   -- the next access, if one can be made
   unfoldable pub step : State M → State M
-  step s = cond (halted (next (s .machine)) (s .used) (length script)) s (moved (next (s .machine)) s)
+  step s = cond (halted (next (s .machine)) (s .used) (length script)) s (afterAccess (next (s .machine)) s)
 
   -- at most so many accesses
   abbrev pub run : ℕ → State M → State M

@@ -16,12 +16,12 @@ use Rattle.machine.specs.Poll.{failed, ready}
 use Rattle.machine.specs.Transfer.{startTransfer, turnAt}
 use Rattle.runs.specs.declared.drive.Frame.{Frame}
 use Rattle.runs.specs.declared.drive.Spot.{Spot}
-use Rattle.runs.specs.declared.turns.Look.{Look}
-use Rattle.runs.specs.declared.turns.Look.the-variants.{Rare, Unready, Ready}
+use Rattle.runs.specs.declared.turns.Shown.{Shown}
+use Rattle.runs.specs.declared.turns.Shown.the-variants.{Rare, Unready, Ready}
 use Rattle.runs.specs.declared.turns.Count.{Count}
 use Rattle.runs.specs.declared.turns.Turns.{Turns}
 use Rattle.runs.specs.declared.turns.Turn.{Turn}
-use Rattle.runs.specs.declared.turns.Turn.the-variants.{Made, Left}
+use Rattle.runs.specs.declared.turns.Turn.the-variants.{Made, Undone}
 use Rattle.runs.specs.declared.turns.Spaced.{Spaced}
 use Rattle.runs.specs.Run.{put}
 use Rattle.runs.specs.Drive.{Stands}
@@ -42,7 +42,7 @@ pub record Whole (d : Direction) (made used budget : ℕ) (script log log′ : L
   pub shown : ready d (getD script (used + 1) 0) (getD script (used + 2) 0) ≡ is
   pub logged : log′ ≡ putPoll log made script used
 
-abbrev pub Looked : Direction → ℕ → ℕ → ℕ → List ℕ → List ℕ → List ℕ → Look → Type 0
+abbrev pub Looked : Direction → ℕ → ℕ → ℕ → List ℕ → List ℕ → List ℕ → Shown → Type 0
 Looked d made used budget script log log′ Rare = log′ ≡ log
 Looked d made used budget script log log′ Unready = Whole d made used budget script log log′ false
 Looked d made used budget script log log′ Ready = Whole d made used budget script log log′ true
@@ -75,7 +75,7 @@ module _ (f : Frame) (script send : List ℕ) where
       → Stands f script send old olds m (turnAt (u .side) (u .sent) (u .spot .received) m) (u .spot) log′ words′
 
   abbrev pub Turned : Count → ℕ → Turns → List ℕ → List ℕ → List ℕ → List ℕ → Turn → Type 0
-  Turned n budget t log words log′ words′ Left = (log′ ≡ log) × (words′ ≡ words)
+  Turned n budget t log words log′ words′ Undone = (log′ ≡ log) × (words′ ≡ words)
   Turned n budget t log words log′ words′ (Made u) =
       (t .spot .made < u .spot .made) × Within budget (length words) u × Onward n t log words u log′ words′
 

@@ -1,6 +1,6 @@
 // What an access does in a run, one small function a part.
 ghost use mathlib.Core.Path.{_≡_};
-ghost use Rattle.runs.specs.Run.{placeOf, usesOf, answerOf, halted, endingOf};
+ghost use Rattle.runs.specs.Run.{codeOf, usesOf, answerOf, halted, endingOf};
 use machine::access::Access;
 use machine::access::Ending;
 use manual::Register;
@@ -9,8 +9,8 @@ use manual::Register;
 pub(crate) const WRITE: u32 = 0x1000;
 
 // The first number of its pair in the log.
-pub(crate) fn place_of(access: Access) -> u32
-    ensures { λ r. ⌜ r ≡ placeOf access ⌝ }
+pub(crate) fn code_of(access: Access) -> u32
+    ensures { λ r. ⌜ r ≡ codeOf access ⌝ }
 {
     match access {
         Access::Read(r) => r.offset(),

@@ -6,12 +6,13 @@ ghost use Prim.Native.Nat.{ℕ, _*_, _≤_};
 ghost use lib.Dec.{ltb};
 ghost use lib.ListN.{length, getD, set};
 ghost use Rattle.machine.specs.declared.transfer.Transfer.{Transfer as Machine};
+ghost use Rattle.machine.specs.Transfer.{counted};
 ghost use Rattle.runs.specs.Run.{valueOf};
-ghost use Rattle.runs.specs.Drive.{oneMore, wordIn, gotAfter, wordsAfter, Stands, states, drivenBy, drivenLeft};
+ghost use Rattle.runs.specs.Drive.{wordIn, gotAfter, wordsAfter, Stands, states, drivenBy, drivenLeft};
 use crate::access::answer_of;
+use crate::access::code_of;
 use crate::access::ending_of;
 use crate::access::halted;
-use crate::access::place_of;
 use crate::access::uses_of;
 use crate::log::put;
 use machine::access::Access;
@@ -87,7 +88,7 @@ fn value_of(
 
 // A received word is stored after those before it. The words that are stored then.
 pub(crate) fn store(words: &mut [u32], received: usize, value: u32) -> usize
-    ensures { λ r. ⌜ (r ≡ oneMore received (length (now (words .entry)))) × (now (words .exit) ≡ set (now (words .entry)) received value) ⌝ }
+    ensures { λ r. ⌜ (r ≡ counted received (length (now (words .entry)))) × (now (words .exit) ≡ set (now (words .entry)) received value) ⌝ }
 {
     if received < words.len() {
         words[received] = value;
@@ -97,7 +98,7 @@ pub(crate) fn store(words: &mut [u32], received: usize, value: u32) -> usize
     }
 }
 
-fn stored(access: Access, words: &mut [u32], received: usize, value: u32) -> usize
+fn keep(access: Access, words: &mut [u32], received: usize, value: u32) -> usize
     ensures { λ r. ⌜ (r ≡ gotAfter access received (length (now (words .entry)))) × (now (words .exit) ≡ wordsAfter access (now (words .entry)) received value) ⌝ }
 {
     match access {
@@ -142,10 +143,10 @@ pub(crate) fn drive(
         put(
             log,
             made,
-            place_of(access),
+            code_of(access),
             value_of(access, frame, send, words, received, value),
         );
-        received = stored(access, words, received, value);
+        received = keep(access, words, received, value);
         made += 1;
         used += uses_of(access);
         t = t.answered(answer_of(access, value));

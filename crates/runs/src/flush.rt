@@ -3,7 +3,7 @@ ghost use mathlib.Core.Path.{_≡_};
 ghost use Prim.Native.Nat.{_+_, _*_, _<_, _≤_, min};
 ghost use lib.ListN.{length, getD};
 ghost use Rattle.machine.specs.Flush.{flushAccess};
-ghost use Rattle.runs.specs.Run.{placeOf, ended, endingOf, left, put};
+ghost use Rattle.runs.specs.Run.{codeOf, ended, endingOf, left, put};
 ghost use Rattle.runs.specs.Flush.{flushLoop, flushRun, flushLeft};
 use crate::log::limits;
 use crate::log::put;
@@ -51,7 +51,7 @@ fn ending_of(flush: Flush) -> Ending
 
 // The offset of the register whose read is due.
 fn offset_of(flush: Flush) -> u32
-    ensures { λ r. ⌜ r ≡ placeOf (flushAccess flush) ⌝ }
+    ensures { λ r. ⌜ r ≡ codeOf (flushAccess flush) ⌝ }
 {
     match flush {
         Flush::Status => Register::SR.offset(),

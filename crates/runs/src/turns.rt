@@ -7,8 +7,9 @@ ghost use Prim.Native.Nat.{ℕ, _+_, _*_, _<_, _≤_};
 ghost use lib.ListN.{length, getD, set};
 ghost use Rattle.manual.specs.declared.Register.the-variants.{TDR, RDR};
 ghost use Rattle.manual.specs.Manual.{offsetOf};
+ghost use Rattle.machine.specs.Transfer.{counted};
 ghost use Rattle.runs.specs.Run.{put};
-ghost use Rattle.runs.specs.Drive.{wordIn, oneMore};
+ghost use Rattle.runs.specs.Drive.{wordIn};
 ghost use Rattle.runs.specs.Turns.{spot, Looked, otherSide, hasMore, dueSide, Within, Onward, Turned, Waited};
 use crate::access::WRITE;
 use crate::drive::Frame;
@@ -22,7 +23,7 @@ use manual::Register;
 use words::transaction::Direction;
 
 // What a poll shows.
-pub(crate) enum Look {
+pub(crate) enum Shown {
     // An error, or the turn does not certainly fit: nothing was done.
     Rare,
     Unready,
@@ -42,10 +43,10 @@ pub(crate) struct Turns {
     pub spot: Spot,
 }
 
-// A turn was made, or left to be made an access at a time.
+// A turn was made, or is to be made an access at a time.
 pub(crate) enum Turn {
     Made(Turns),
-    Left,
+    Undone,
 }
 
 // The command was sent, or is left to be sent an access at a time.
@@ -61,23 +62,23 @@ fn poll(
     budget: usize,
     script: &[u32],
     log: &mut [u32],
-) -> Look
+) -> Shown
     requires within { ⌜ made ≤ budget ⌝ }
     requires room { ⌜ 2 * budget ≤ length (now log) ⌝ }
     ensures { λ r. ⌜ Looked side made used budget (now (script .entry)) (now (log .entry)) (now (log .exit)) r ⌝ }
 {
     if budget - made < 4 {
-        return Look::Rare;
+        return Shown::Rare;
     }
     if script.len() < 4 {
-        return Look::Rare;
+        return Shown::Rare;
     }
     if script.len() - 4 < used {
-        return Look::Rare;
+        return Shown::Rare;
     }
     let status = script[used];
     if failed(side, status) {
-        return Look::Rare;
+        return Shown::Rare;
     }
     let param = script[used + 1];
     let counts = script[used + 2];
@@ -85,9 +86,9 @@ fn poll(
     put(log, made + 1, Register::PARAM.offset(), param);
     put(log, made + 2, Register::FSR.offset(), counts);
     if ready(side, param, counts) {
-        return Look::Ready;
+        return Shown::Ready;
     }
-    Look::Unready
+    Shown::Unready
 }
 
 fn other(side: Direction) -> Direction
@@ -158,7 +159,7 @@ fn send_word(t: Turns, frame: Frame, log: &mut [u32], send: &[u32], words: &[u32
 // The word after a poll of the receiving side.
 fn receive_word(t: Turns, script: &[u32], log: &mut [u32], words: &mut [u32]) -> Turns
     requires { ⌜ (2 * (t .spot .made + 4) ≤ length (now log)) × (t .spot .used + 4 ≤ length (now script)) × (t .spot .used ≤ t .spot .made) ⌝ }
-    ensures { λ r. ⌜ (r ≡ record { side = t .side; sent = t .sent; spot = spot (t .spot .made + 4) (t .spot .used + 4) (oneMore (t .spot .received) (length (now (words .entry)))) }) × (now (log .exit) ≡ put (now (log .entry)) (t .spot .made + 3) (offsetOf RDR) (getD (now (script .entry)) (t .spot .used + 3) 0)) × (now (words .exit) ≡ set (now (words .entry)) (t .spot .received) (getD (now (script .entry)) (t .spot .used + 3) 0)) ⌝ }
+    ensures { λ r. ⌜ (r ≡ record { side = t .side; sent = t .sent; spot = spot (t .spot .made + 4) (t .spot .used + 4) (counted (t .spot .received) (length (now (words .entry)))) }) × (now (log .exit) ≡ put (now (log .entry)) (t .spot .made + 3) (offsetOf RDR) (getD (now (script .entry)) (t .spot .used + 3) 0)) × (now (words .exit) ≡ set (now (words .entry)) (t .spot .received) (getD (now (script .entry)) (t .spot .used + 3) 0)) ⌝ }
 {
     let s = t.spot;
     let side = t.side;
@@ -214,9 +215,9 @@ fn take_turn(
     let side = t.side;
     let s = t.spot;
     match poll(side, s.made, s.used, budget, script, log) {
-        Look::Rare => Turn::Left,
-        Look::Unready => Turn::Made(wait(t)),
-        Look::Ready => match side {
+        Shown::Rare => Turn::Undone,
+        Shown::Unready => Turn::Made(wait(t)),
+        Shown::Ready => match side {
             Direction::Tx => Turn::Made(send_word(t, frame, log, send, words)),
             Direction::Rx => Turn::Made(receive_word(t, script, log, words)),
         },
@@ -249,7 +250,7 @@ pub(crate) fn take_turns(
             Turn::Made(u) => {
                 t = u;
             }
-            Turn::Left => {
+            Turn::Undone => {
                 return t;
             }
         }
@@ -265,7 +266,7 @@ pub(crate) fn wait_for_space(command: u32, budget: usize, script: &[u32], log: &
     let mut used: usize = 0;
     loop {
         match poll(Direction::Tx, made, used, budget, script, log) {
-            Look::Rare => {
+            Shown::Rare => {
                 return Spaced {
                     commanded: false,
                     spot: Spot {
@@ -275,11 +276,11 @@ pub(crate) fn wait_for_space(command: u32, budget: usize, script: &[u32], log: &
                     },
                 };
             }
-            Look::Unready => {
+            Shown::Unready => {
                 made += 3;
                 used += 3;
             }
-            Look::Ready => {
+            Shown::Ready => {
                 put(log, made + 3, WRITE + Register::TCR.offset(), command);
                 return Spaced {
                     commanded: true,

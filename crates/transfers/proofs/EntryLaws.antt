@@ -4,7 +4,6 @@ use Prim.Native.Nat.{ℕ, _*_, _≤_, max}
 use mathlib.Core.Bool.{Bool, true, false}
 use mathlib.Core.List.{List, []}
 use mathlib.Core.Path.{_≡_, refl, sym, ap, ap₂, _∙_}
-use native.Mathlib.Omega.{arith}
 use lib.ListN.{length, take, replicate}
 use borrow.Author.Tests.{ne-eqb}
 use denote.Ref.{RefT, now}
@@ -28,7 +27,6 @@ use Rattle.machine.specs.declared.access.Ending.the-variants.{Ok, Err, Limits}
 use Rattle.machine.specs.declared.driver.Lpspi.{Lpspi}
 use Rattle.machine.specs.declared.transfer.Transfer.{Transfer}
 use Rattle.machine.specs.Driver.{driverCommand}
-use Rattle.machine.specs.Transfer.{startTransfer}
 use Rattle.runs.specs.declared.drive.Driven.{Driven}
 use Rattle.runs.specs.declared.drive.Frame.{Frame}
 use Rattle.runs.specs.declared.result.RunResult.{RunResult}

@@ -7,7 +7,7 @@ use mathlib.Core.Path.{_≡_, refl, sym, ap, ap₂, _∙_}
 use native.Mathlib.Nat.{mul-zero, mod-one}
 use native.Mathlib.Omega.{arith}
 use lib.Dec.{ltb, leb, lit<}
-use lib.ListN.{length, getD, take, replicate, length-take}
+use lib.ListN.{length, getD, take, replicate}
 use lib.Seq.{take-all}
 use borrow.Author.Tests.{lt-ltb, ltb-true, ltb-false, leb-true, leb-false, ne-eqb}
 use denote.Ref.{RefT, now}
@@ -22,7 +22,6 @@ use Rattle.words.specs.Buffer.{wordCount, countAt, wordAt, packWords, unpackWor
 use Rattle.words.specs.Command.{frameAccepted}
 use Rattle.words.specs.Longer.{longer}
 use Rattle.words.specs.Width.{widthBits}
-use Rattle.words.proofs.BufferLaws.{length-laid}
 use Rattle.words.proofs.CommandLaws.{accepted-between}
 use Rattle.words.proofs.LaidLaws.{in-place-word, unpack-take, packed-at, laid-at, take-laid, word-past, total-ends}
 use Rattle.machine.specs.declared.access.Ending.{Ending}

@@ -8,7 +8,6 @@ use lib.ListN.{length}
 use Rattle.machine.specs.declared.transfer.Transfer.{Transfer}
 use Rattle.machine.specs.declared.access.Access.{Access}
 use Rattle.machine.specs.Transfer.{resumed}
-use Rattle.runs.specs.declared.drive.Spot.{Spot}
 use Rattle.runs.specs.Run.{put, halted, endingOf}
 use Rattle.runs.specs.Drive.{Stands}
 use Rattle.runs.proofs.DriveLaws.{uses-one, got-fit, stands-next, stands-full, stands-halted}
@@ -42,8 +41,8 @@ ending-of-requires-2 c κs = search needs
 answer-requires : tie.Need-answer-requires Inv-loop μ-loop
 answer-requires c κs = search needs
 
-place-of-requires : tie.Need-place-of-requires Inv-loop μ-loop
-place-of-requires c κs = search needs
+code-of-requires : tie.Need-code-of-requires Inv-loop μ-loop
+code-of-requires c κs = search needs
 
 value-of-requires : tie.Need-value-of-requires Inv-loop μ-loop
 value-of-requires c κs = search needs
@@ -51,8 +50,8 @@ value-of-requires c κs = search needs
 put-requires : tie.Need-put-requires Inv-loop μ-loop
 put-requires c κs = omega arith
 
-stored-requires : tie.Need-stored-requires Inv-loop μ-loop
-stored-requires c κs = search needs
+keep-requires : tie.Need-keep-requires Inv-loop μ-loop
+keep-requires c κs = search needs
 
 add-made : tie.Need-add-made Inv-loop μ-loop
 add-made c = omega arith
@@ -82,8 +81,8 @@ loop-again c =
     let access = c .before .before .before .before .before .before .before .before .before .before .before .before .before .before .before .before .before .before .next .result in
     let goes = sym (c .before .before .before .before .before .before .before .before .before .before .before .before .before .before .before .before .halted .ensures) ∙ c .before .before .before .before .before .before .before .before .before .before .before .before .before .before .before .if2 .left in
     let room : l .made < a .budget = c .before .before .before .before .before .before .before .before .before .before .before .before .before .before .before .before .before .if1 .left in
-    let logged = c .before .before .before .before .before .before .before .before .before .put .ensures ∙ ap₂ (λ (x y : ℕ). put (l .log) (l .made) x y) (c .before .before .before .before .before .before .before .before .before .before .before .before .place-of .ensures) (c .before .before .before .before .before .before .before .before .before .before .value-of .ensures) in
-    let st = c .before .before .before .before .before .stored in (
+    let logged = c .before .before .before .before .before .before .before .before .before .put .ensures ∙ ap₂ (λ (x y : ℕ). put (l .log) (l .made) x y) (c .before .before .before .before .before .before .before .before .before .before .before .before .code-of .ensures) (c .before .before .before .before .before .before .before .before .before .before .value-of .ensures) in
+    let st = c .before .before .before .before .before .keep in (
       omega (arith, room),
       omega (arith, uses-one access, c .before .before .uses-of .ensures, l .inv .1),
       rw (st .ensures .0, st .kept .1 .0) (got-fit access (l .received) (length (l .words)) (l .inv .2)),
@@ -137,10 +136,10 @@ drive-spec =
     halted-requires
     ending-of-requires-2
     answer-requires
-    place-of-requires
+    code-of-requires
     value-of-requires
     put-requires
-    stored-requires
+    keep-requires
     add-made
     uses-of-requires
     add-used

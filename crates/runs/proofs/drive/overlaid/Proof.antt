@@ -1,6 +1,5 @@
 -- `overlaid` meets its contract.
 -- Assumes nothing.
-use mathlib.Core.Path.{_≡_}
 use borrow.Author.Needs.{needs}
 use Rattle.runs.proofs.drive.overlaid.Statement.{statement}
 use Rattle.runs.proofs.drive.overlaid.Tie as tie

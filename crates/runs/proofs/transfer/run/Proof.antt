@@ -1,9 +1,8 @@
 -- `run` meets its contract: the waiting for space, whole turns, and the rest an access at a time.
 -- Assumes nothing.
-use Prim.Native.Nat.{ℕ, _*_, _≤_}
+use Prim.Native.Nat.{ℕ}
 use mathlib.Core.Path.{_≡_, refl, sym, ap, subst, _∙_}
 use native.Mathlib.Omega.{arith}
-use lib.ListN.{length}
 use Rattle.machine.specs.declared.transfer.Transfer.{Transfer}
 use Rattle.machine.specs.Transfer.{startTransfer, turnAt}
 use Rattle.runs.specs.Drive.{drivenBy, states, Stands}

@@ -1,6 +1,5 @@
 -- `run_words` meets its contract: number 5, or the run; without places enough, an access at a time.
 -- Assumes nothing.
-use Prim.Native.Nat.{ℕ}
 use mathlib.Core.Path.{sym, ap, _∙_}
 use native.Mathlib.Omega.{arith}
 use Rattle.machine.specs.declared.transfer.Transfer.{Transfer}

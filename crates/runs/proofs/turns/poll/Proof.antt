@@ -1,9 +1,7 @@
 -- `poll` meets its contract: the poll is made whole, or nothing is done.
 -- Assumes nothing.
-use Prim.Native.Nat.{_+_, _≤_}
-use mathlib.Core.Path.{_≡_, sym, _∙_}
+use mathlib.Core.Path.{sym, _∙_}
 use native.Mathlib.Omega.{arith}
-use lib.ListN.{length}
 use borrow.Author.Needs.{needs}
 use Rattle.runs.proofs.turns.poll.Statement.{statement}
 use Rattle.runs.proofs.turns.poll.Tie as tie

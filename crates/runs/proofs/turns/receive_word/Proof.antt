@@ -1,6 +1,5 @@
 -- `receive_word` meets its contract.
 -- Assumes nothing.
-use mathlib.Core.Path.{refl}
 use borrow.Author.Needs.{needs}
 use Rattle.runs.proofs.turns.receive_word.Statement.{statement}
 use Rattle.runs.proofs.turns.receive_word.Tie as tie

@@ -1,13 +1,10 @@
 -- `take_turn` meets its contract: nothing, a poll that was not ready, or a word.
 -- Assumes nothing.
-use Prim.Native.Nat.{_+_, _*_, _≤_}
-use mathlib.Core.Bool.{Bool, true}
+use mathlib.Core.Bool.{true}
 use mathlib.Core.Path.{_≡_, refl, sym, subst}
 use native.Mathlib.Omega.{arith}
-use lib.ListN.{length}
 use Rattle.words.specs.declared.transaction.Direction.{Direction}
-use Rattle.words.specs.declared.transaction.Direction.the-variants.{Tx, Rx}
-use Rattle.runs.specs.declared.turns.Look.the-variants.{Rare, Unready, Ready}
+use Rattle.runs.specs.declared.turns.Shown.the-variants.{Rare, Unready, Ready}
 use Rattle.runs.specs.declared.turns.Turn.the-variants.{Made}
 use Rattle.runs.specs.declared.turns.Turns.{Turns}
 use Rattle.runs.specs.Turns.{Whole, hasMore, Turned}

@@ -1,14 +1,13 @@
 -- `take_turns` meets its contract. The loop's invariant: what it holds is what the run has after as many accesses.
 -- Assumes nothing.
-use Prim.Native.Nat.{ℕ, _-_, _*_, _≤_}
+use Prim.Native.Nat.{ℕ, _-_}
 use mathlib.Core.List.{List}
 use mathlib.Core.Path.{_≡_, refl, sym, ap, subst, _∙_}
 use native.Mathlib.Omega.{arith}
 use lib.ListN.{length}
-use Rattle.runs.specs.declared.turns.Turn.{Turn}
-use Rattle.runs.specs.declared.turns.Turn.the-variants.{Made, Left}
+use Rattle.runs.specs.declared.turns.Turn.the-variants.{Made, Undone}
 use Rattle.runs.specs.declared.turns.Turns.{Turns}
-use Rattle.runs.specs.Turns.{Within, Onward, Turned, hasMore}
+use Rattle.runs.specs.Turns.{Within, Onward, hasMore}
 use Rattle.runs.proofs.TurnLaws.{onward-passed, within-passed, as-turn, not-false}
 use borrow.Author.Needs.{needs}
 use Rattle.runs.proofs.turns.take_turns.Statement.{statement}
@@ -97,7 +96,7 @@ returns-2 c =
     let l = c .before .before .before .before .before .before .before .before .before .before .before .before .loop in
     let u = c .before .before .before .before .before .before .before .before .before .before .before .pass in
     let k = c .before .before .before .before .before .before .take-turn in
-    let q = as-turn (a .frame) (a .script .now) (a .send .now) (a .count) (a .budget) (u .result) (l .log) (l .words) (k .last .1 .1 .1 .1 .1 .0) (k .last .1 .1 .1 .1 .1 .1 .1 .0) (k .result) Left (c .enum-told .given .1) (k .ensures) in (
+    let q = as-turn (a .frame) (a .script .now) (a .send .now) (a .count) (a .budget) (u .result) (l .log) (l .words) (k .last .1 .1 .1 .1 .1 .0) (k .last .1 .1 .1 .1 .1 .1 .1 .0) (k .result) Undone (c .enum-told .given .1) (k .ensures) in (
       within-passed (a .count) (a .budget) (length (a .words .now)) (l .t) (u .result) (u .ensures) (l .inv .0),
       subst (λ (x : List ℕ). Onward (a .frame) (a .script .now) (a .send .now) (a .count) (a .first) (a .log .now) (a .words .now) (u .result) x (k .last .1 .1 .1 .1 .1 .1 .1 .0)) (sym (q .0))
           (subst (λ (x : List ℕ). Onward (a .frame) (a .script .now) (a .send .now) (a .count) (a .first) (a .log .now) (a .words .now) (u .result) (l .log) x) (sym (q .1))

@@ -1,16 +1,16 @@
 -- `wait_for_space` meets its contract. The loop's invariant: the transfer still stands at its start.
 -- Assumes nothing.
 use Prim.Native.Nat.{ℕ, _+_, _-_, _*_, _≤_}
-use mathlib.Core.Bool.{true, false}
+use mathlib.Core.Bool.{false}
 use mathlib.Core.List.{List}
-use mathlib.Core.Path.{_≡_, refl, sym, ap, ap₂, subst, _∙_}
+use mathlib.Core.Path.{_≡_, refl, sym, ap, subst, _∙_}
 use native.Mathlib.Omega.{arith}
 use lib.ListN.{length}
 use Rattle.words.specs.declared.transaction.Direction.the-variants.{Tx}
 use Rattle.machine.specs.declared.driver.Lpspi.{Lpspi}
 use Rattle.machine.specs.Transfer.{startTransfer}
 use Rattle.runs.specs.declared.drive.Frame.{Frame}
-use Rattle.runs.specs.declared.turns.Look.the-variants.{Rare, Unready, Ready}
+use Rattle.runs.specs.declared.turns.Shown.the-variants.{Rare, Unready, Ready}
 use Rattle.runs.specs.Run.{put}
 use Rattle.runs.specs.Drive.{Stands}
 use Rattle.runs.specs.Turns.{spot}

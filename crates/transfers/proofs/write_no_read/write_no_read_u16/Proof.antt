@@ -2,7 +2,6 @@
 -- Assumes nothing.
 use mathlib.Core.List.{[]}
 use mathlib.Core.Path.{refl}
-use native.Mathlib.Omega.{arith}
 use lib.ListN.{length}
 use Rattle.words.specs.declared.width.Width.the-variants.{U16}
 use Rattle.words.specs.Width.{widthBits}

@@ -1,10 +1,10 @@
--- `place_of` meets its contract, access by access; an offset and 1000 hexadecimal fit a word.
+-- `code_of` meets its contract, access by access; an offset and 1000 hexadecimal fit a word.
 -- Assumes nothing.
 use native.Mathlib.Omega.{arith}
 use Rattle.runs.proofs.DriveLaws.{offset-small}
 use borrow.Author.Needs.{needs}
-use Rattle.runs.proofs.access.place_of.Statement.{statement}
-use Rattle.runs.proofs.access.place_of.Tie as tie
+use Rattle.runs.proofs.access.code_of.Statement.{statement}
+use Rattle.runs.proofs.access.code_of.Tie as tie
 
 enum-known-access : tie.Need-enum-known-access
 enum-known-access c = search needs
@@ -54,8 +54,8 @@ returns-4 c = search needs
 returns-5 : tie.Need-returns-5
 returns-5 c = search needs
 
-pub place-of-spec : {M : Type 1} → statement M
-place-of-spec =
+pub code-of-spec : {M : Type 1} → statement M
+code-of-spec =
     tie.close
     (tie.spec
     enum-known-access

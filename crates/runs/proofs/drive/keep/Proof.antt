@@ -1,8 +1,8 @@
--- `stored` meets its contract, access by access.
+-- `keep` meets its contract, access by access.
 -- Assumes nothing.
 use borrow.Author.Needs.{needs}
-use Rattle.runs.proofs.drive.stored.Statement.{statement}
-use Rattle.runs.proofs.drive.stored.Tie as tie
+use Rattle.runs.proofs.drive.keep.Statement.{statement}
+use Rattle.runs.proofs.drive.keep.Tie as tie
 
 enum-told : tie.Need-enum-told
 enum-told c = search needs
@@ -40,8 +40,8 @@ returns-4 c = let e = c .before .before .before .before .enum-told4 .given .1 in
 returns-5 : tie.Need-returns-5
 returns-5 c = search needs
 
-pub stored-spec : {M : Type 1} → statement M
-stored-spec =
+pub keep-spec : {M : Type 1} → statement M
+keep-spec =
     tie.close
     (tie.spec
     enum-told
