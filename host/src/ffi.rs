@@ -42,42 +42,6 @@ extern "C" {
         len: usize,
     );
 
-    #[allow(clippy::too_many_arguments)]
-    pub fn lpspi_exchange_separate_u8(
-        lsb: bool,
-        mode: u32,
-        pcs: u32,
-        read: *mut u8,
-        read_len: usize,
-        write: *const u8,
-        write_len: usize,
-        budget: usize,
-        script: *const u32,
-        script_len: usize,
-        log: *mut u32,
-        log_len: usize,
-        accesses: *mut usize,
-        answers: *mut usize,
-    ) -> u32;
-
-    #[allow(clippy::too_many_arguments)]
-    pub fn lpspi_exchange_separate_u32(
-        lsb: bool,
-        mode: u32,
-        pcs: u32,
-        read: *mut u32,
-        read_len: usize,
-        write: *const u32,
-        write_len: usize,
-        budget: usize,
-        script: *const u32,
-        script_len: usize,
-        log: *mut u32,
-        log_len: usize,
-        accesses: *mut usize,
-        answers: *mut usize,
-    ) -> u32;
-
     pub fn lpspi_flush(
         budget: usize,
         script: *const u32,
@@ -87,4 +51,63 @@ extern "C" {
         accesses: *mut usize,
         answers: *mut usize,
     ) -> u32;
+}
+
+/// The exchange of two buffers of one element type.
+macro_rules! exchange_separate {
+    ($($function:ident of $element:ty;)*) => {
+        extern "C" {
+            $(
+                #[allow(clippy::too_many_arguments)]
+                fn $function(
+                    lsb: bool,
+                    mode: u32,
+                    pcs: u32,
+                    read: *mut $element,
+                    read_len: usize,
+                    write: *const $element,
+                    write_len: usize,
+                    budget: usize,
+                    script: *const u32,
+                    script_len: usize,
+                    log: *mut u32,
+                    log_len: usize,
+                    accesses: *mut usize,
+                    answers: *mut usize,
+                ) -> u32;
+            )*
+        }
+        $(
+            impl Exported for $element {
+                const EXCHANGE_SEPARATE: ExchangeSeparate<Self> = $function;
+            }
+        )*
+    };
+}
+
+pub type ExchangeSeparate<W> = unsafe extern "C" fn(
+    bool,
+    u32,
+    u32,
+    *mut W,
+    usize,
+    *const W,
+    usize,
+    usize,
+    *const u32,
+    usize,
+    *mut u32,
+    usize,
+    *mut usize,
+    *mut usize,
+) -> u32;
+
+/// The functions of an element type.
+pub trait Exported: Copy {
+    const EXCHANGE_SEPARATE: ExchangeSeparate<Self>;
+}
+
+exchange_separate! {
+    lpspi_exchange_separate_u8 of u8;
+    lpspi_exchange_separate_u32 of u32;
 }

@@ -11,7 +11,7 @@ pub mod raw;
 pub mod reference;
 mod run;
 
-pub use run::{exchange_separate_u32, exchange_separate_u8, flush, Driver, Run};
+pub use run::{exchange_separate, flush, Driver, Element, Run};
 use std::fmt;
 
 /// Order of the elements in a FIFO word, and of the bits on the wire.

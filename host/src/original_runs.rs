@@ -5,7 +5,7 @@
 //! `spin_on`. A script and a log stand in for the registers. Once a run must
 //! stop no more accesses are made and reads give 0: that ends the loops of
 //! `flush` and `soft_reset` and leaves both futures pending, for `spin_on` to
-//! end. The three entries at the end are not inlined.
+//! end. The two entries at the end are not inlined.
 
 use crate::original_shape::{
     Mode, Pcs, Phase, Polarity, ReceiveBuffer, Transaction, TransmitBuffer, Word,
@@ -388,27 +388,12 @@ fn run(
     }
 }
 
-/// Entry: [`exchange_separate_u8`](crate::exchange_separate_u8).
+/// Entry: [`exchange_separate`](crate::exchange_separate).
 #[inline(never)]
-pub fn exchange_separate_u8(
+pub fn exchange_separate<W: Word>(
     driver: Driver,
-    read: &mut [u8],
-    write: &[u8],
-    budget: usize,
-    script: &[u32],
-    log: &mut [u32],
-) -> Run {
-    run(driver, budget, script, log, |lpspi| {
-        lpspi.exchange_separate(read, write)
-    })
-}
-
-/// Entry: [`exchange_separate_u32`](crate::exchange_separate_u32).
-#[inline(never)]
-pub fn exchange_separate_u32(
-    driver: Driver,
-    read: &mut [u32],
-    write: &[u32],
+    read: &mut [W],
+    write: &[W],
     budget: usize,
     script: &[u32],
     log: &mut [u32],

@@ -8,7 +8,7 @@ use crate::BitOrder;
 use std::marker::PhantomData;
 
 /// An element of a transfer.
-pub(crate) trait Word: Copy {
+pub trait Word: Copy {
     /// Sent where the write buffer has no more.
     const DUMMY: Self;
     /// Joins the elements that `provider` gives into a FIFO word.

@@ -4,7 +4,7 @@
 //! refusal an out-word is as found, which the tests check here. A run always
 //! gives its accesses and answers.
 
-use crate::{ffi, BitOrder, Command, Driver};
+use crate::{ffi, BitOrder, Command, Driver, Element};
 
 /// The TCR word of a command.
 #[inline]
@@ -79,13 +79,13 @@ pub fn unpack_words_u8(order: BitOrder, words: &[u32], total: usize, bytes: &mut
     }
 }
 
-/// Sends `write` and receives into `read`, of bytes.
+/// Sends `write` and receives into `read`.
 #[inline]
 #[allow(clippy::too_many_arguments)]
-pub fn exchange_separate_u8(
+pub fn exchange_separate<W: Element>(
     driver: Driver,
-    read: &mut [u8],
-    write: &[u8],
+    read: &mut [W],
+    write: &[W],
     budget: usize,
     script: &[u32],
     log: &mut [u32],
@@ -95,42 +95,7 @@ pub fn exchange_separate_u8(
     // Safety: all slices are valid for their lengths, and neither they nor the
     // two counts overlap.
     unsafe {
-        ffi::lpspi_exchange_separate_u8(
-            driver.bit_order.is_lsb(),
-            driver.mode,
-            driver.pcs,
-            read.as_mut_ptr(),
-            read.len(),
-            write.as_ptr(),
-            write.len(),
-            budget,
-            script.as_ptr(),
-            script.len(),
-            log.as_mut_ptr(),
-            log.len(),
-            accesses,
-            answers,
-        )
-    }
-}
-
-/// Sends `write` and receives into `read`, of words.
-#[inline]
-#[allow(clippy::too_many_arguments)]
-pub fn exchange_separate_u32(
-    driver: Driver,
-    read: &mut [u32],
-    write: &[u32],
-    budget: usize,
-    script: &[u32],
-    log: &mut [u32],
-    accesses: &mut usize,
-    answers: &mut usize,
-) -> u32 {
-    // Safety: all slices are valid for their lengths, and neither they nor the
-    // two counts overlap.
-    unsafe {
-        ffi::lpspi_exchange_separate_u32(
+        W::EXCHANGE_SEPARATE(
             driver.bit_order.is_lsb(),
             driver.mode,
             driver.pcs,

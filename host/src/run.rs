@@ -4,7 +4,7 @@
 //! access: the register's offset, plus 0x1000 for a write, and the value. It
 //! must have room for the whole budget; places past the accesses made are kept.
 
-use crate::{answer, raw, BitOrder, Error};
+use crate::{answer, ffi, raw, BitOrder, Error};
 
 /// The driver's settings for a transfer. Its clock cache is 0.
 #[derive(Debug, Clone, Copy, PartialEq, Eq, Default)]
@@ -50,36 +50,27 @@ impl Run {
     }
 }
 
+/// An element of a buffer: a byte or a word.
+pub trait Element: ffi::Exported {}
+
+impl Element for u8 {}
+impl Element for u32 {}
+
 /// Sends `write` and receives into `read`, which may differ in length.
 ///
-/// Missing bytes are sent as 0xFF, and received bytes past the end of `read` are
-/// dropped. Bytes not received are kept.
+/// Missing elements are sent as all ones, and received elements past the end of
+/// `read` are dropped. Elements not received are kept.
 #[inline]
-pub fn exchange_separate_u8(
+pub fn exchange_separate<W: Element>(
     driver: Driver,
-    read: &mut [u8],
-    write: &[u8],
+    read: &mut [W],
+    write: &[W],
     budget: usize,
     script: &[u32],
     log: &mut [u32],
 ) -> Run {
     Run::of(|accesses, answers| {
-        raw::exchange_separate_u8(driver, read, write, budget, script, log, accesses, answers)
-    })
-}
-
-/// [`exchange_separate_u8`] with elements of 32 bits.
-#[inline]
-pub fn exchange_separate_u32(
-    driver: Driver,
-    read: &mut [u32],
-    write: &[u32],
-    budget: usize,
-    script: &[u32],
-    log: &mut [u32],
-) -> Run {
-    Run::of(|accesses, answers| {
-        raw::exchange_separate_u32(driver, read, write, budget, script, log, accesses, answers)
+        raw::exchange_separate(driver, read, write, budget, script, log, accesses, answers)
     })
 }
 

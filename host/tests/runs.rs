@@ -4,9 +4,7 @@
 mod common;
 
 use common::Random;
-use lpspi_host::{
-    exchange_separate_u32, exchange_separate_u8, flush, original_runs, raw, Driver, Error, Run,
-};
+use lpspi_host::{exchange_separate, flush, original_runs, raw, Driver, Element, Error, Run};
 use std::fmt::Debug;
 
 const MAX_BUDGET: usize = 8_000;
@@ -36,9 +34,9 @@ fn listing(log: &[u32], read: &[u8], run: Run) -> String {
 #[test]
 fn the_example() {
     let script = [0, 0x404, 0, 0, 0x404, 0, 0, 0x404, 0x10000, 0x5A];
-    let (mut read, mut log) = ([0], found(50));
+    let (mut read, mut log) = ([0u8], found(50));
     let driver = Driver::default();
-    let run = exchange_separate_u8(driver, &mut read, &[0xA5], 20, &script, &mut log);
+    let run = exchange_separate(driver, &mut read, &[0xA5], 20, &script, &mut log);
     let expected = "\
 R 14 00000000
 R 04 00000404
@@ -80,19 +78,43 @@ fn ready_runs_make_4_and_8n_accesses() {
             answers: 3 + 7 * n,
         };
         let (driver, budget) = (Driver::default(), 4 + 8 * n);
-        let mut read = vec![0; n];
+        let mut read = vec![0u32; n];
         let write = read.clone();
-        let run = exchange_separate_u32(driver, &mut read, &write, budget, &script, &mut log);
+        let run = exchange_separate(driver, &mut read, &write, budget, &script, &mut log);
         assert_eq!(run, expected);
         assert!(read.iter().zip(0..).all(|(word, place)| *word == place));
 
         for len in 4 * n - 3..=4 * n {
-            let mut read = vec![0; len];
+            let mut read = vec![0u8; len];
             let write = read.clone();
-            let run = exchange_separate_u8(driver, &mut read, &write, budget, &script, &mut log);
+            let run = exchange_separate(driver, &mut read, &write, budget, &script, &mut log);
             assert_eq!(run, expected);
         }
     }
+}
+
+/// The number and counts of an exchange that leaves its read buffer as found. The
+/// counts stand at another value before.
+fn without_accesses<W: Element + PartialEq + Debug>(
+    (read, write): (&[W], &[W]),
+    budget: usize,
+    script: &[u32],
+    log: &mut [u32],
+) -> (u32, usize, usize) {
+    let (mut accesses, mut answers) = (7, 7);
+    let mut given = read.to_vec();
+    let number = raw::exchange_separate(
+        Driver::default(),
+        &mut given,
+        write,
+        budget,
+        script,
+        log,
+        &mut accesses,
+        &mut answers,
+    );
+    assert_eq!(given, read);
+    (number, accesses, answers)
 }
 
 /// Numbers 5 and 1 and the empty transfer leave all as found, in this order.
@@ -116,36 +138,16 @@ fn runs_without_accesses() {
     ];
     for (budget, log_len, read_len, write_len, number) in cases {
         let case = format!("budget {budget}, log {log_len}, read {read_len}, write {write_len}");
-        let (mut accesses, mut answers) = (7, 7);
-        let (mut log, mut read) = (found(log_len), vec![0x5A; read_len]);
-        let given = raw::exchange_separate_u8(
-            Driver::default(),
-            &mut read,
-            &vec![0xA5; write_len],
-            budget,
-            &script,
-            &mut log,
-            &mut accesses,
-            &mut answers,
-        );
-        assert_eq!((given, accesses, answers), (number, 0, 0), "{case}");
-        assert_eq!(read, vec![0x5A; read_len], "{case}");
+        let mut log = found(log_len);
+        let bytes = (&vec![0x5Au8; read_len][..], &vec![0xA5u8; write_len][..]);
+        let given = without_accesses(bytes, budget, &script, &mut log);
+        assert_eq!(given, (number, 0, 0), "{case}");
 
         // The same number of words, in buffers a quarter as long.
-        let (mut accesses, mut answers) = (7, 7);
-        let mut read = vec![0x5A; read_len.div_ceil(4)];
-        let given = raw::exchange_separate_u32(
-            Driver::default(),
-            &mut read,
-            &vec![0xA5; write_len.div_ceil(4)],
-            budget,
-            &script,
-            &mut log,
-            &mut accesses,
-            &mut answers,
-        );
-        assert_eq!((given, accesses, answers), (number, 0, 0), "{case}");
-        assert_eq!(read, vec![0x5A; read_len.div_ceil(4)], "{case}");
+        let (read_len, write_len) = (read_len.div_ceil(4), write_len.div_ceil(4));
+        let words = (&vec![0x5Au32; read_len][..], &vec![0xA5u32; write_len][..]);
+        let given = without_accesses(words, budget, &script, &mut log);
+        assert_eq!(given, (number, 0, 0), "{case}");
 
         if number == 5 {
             let (mut accesses, mut answers) = (7, 7);
@@ -393,8 +395,8 @@ fn exchanges_of_bytes() {
         &mut random,
         4,
         |random| random.word() as u8,
-        exchange_separate_u8,
-        original_runs::exchange_separate_u8,
+        exchange_separate,
+        original_runs::exchange_separate,
     );
 }
 
@@ -405,8 +407,8 @@ fn exchanges_of_words() {
         &mut random,
         1,
         Random::word,
-        exchange_separate_u32,
-        original_runs::exchange_separate_u32,
+        exchange_separate,
+        original_runs::exchange_separate,
     );
 }
 

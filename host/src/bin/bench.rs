@@ -3,10 +3,7 @@
 //! Run with `cargo run --release --bin bench`.
 
 use lpspi_host::original_shape::{self, Mode, Pcs, Phase, Polarity};
-use lpspi_host::{
-    exchange_separate_u32, exchange_separate_u8, flush, original_runs, raw, BitOrder, Command,
-    Driver, Run,
-};
+use lpspi_host::{exchange_separate, flush, original_runs, raw, BitOrder, Command, Driver, Run};
 use std::cell::RefCell;
 use std::fmt::Debug;
 use std::hint::black_box;
@@ -244,8 +241,8 @@ fn exchange_bytes(bytes: &[u8], burst: usize, polls: &str) {
         &format!("{len} bytes, {polls}"),
         bytes,
         &by_bursts(len.div_ceil(4), burst),
-        original_runs::exchange_separate_u8,
-        exchange_separate_u8,
+        original_runs::exchange_separate,
+        exchange_separate,
     );
 }
 
@@ -255,8 +252,8 @@ fn exchange_words(words: &[u32]) {
         &format!("{len} words, all polls ready"),
         words,
         &by_bursts(len, len),
-        original_runs::exchange_separate_u32,
-        exchange_separate_u32,
+        original_runs::exchange_separate,
+        exchange_separate,
     );
 }
 
