@@ -2,9 +2,12 @@
 # Fills `?` at the `returns` needs of proof files with a `simp` over the facts on the way there, read off the generated Lts.
 # In the repository's root, after `rt goals CRATE`:  simp_returns.py CRATE module/function ..   (as transfer/after_sending)
 # TESTS=name,name .. names the callees whose results are only tested: their `ensures` is used from right to left.
+# MATCHED=name,name .. names the locals that a `match` goes into; PAIRS=name,name .. the callees whose `ensures` is a pair with the equation first.
 import os,re,sys
 crate=sys.argv[1]
-TESTS=set(filter(None,os.environ.get('TESTS','').split(',')))
+def listed(name): return set(filter(None,os.environ.get(name,'').split(',')))
+TESTS,PAIRS=listed('TESTS'),listed('PAIRS')
+MATCHED={'phase','access','next','self','a','r','d','p','e','k'}|listed('MATCHED')
 def parse(fn):
     L=open('target/goals/'+crate+'/Rattle·'+crate+'·proofs/proofs/'+fn+'/Lts.antt').read().split('\n')
     recs={}; needs={}; cur=None
@@ -31,7 +34,7 @@ def facts(recs,rec):
             if f=='before' or not t.strip().startswith(rec+'·own') and '·own' not in t: continue
             own=recs.get(t.split()[0],{})
             if 'given' in own and f.startswith('enum'): out.append((f,path+' .%s .given .1'%f))
-            elif 'given' in own and re.match(r'(phase|access|next|self|a|r|d|p|e|k)\d*$',f): out.append((f,path+' .%s .given .1'%f))
+            elif 'given' in own and re.sub(r'\d+$','',f) in MATCHED: out.append((f,path+' .%s .given .1'%f))
             elif 'taken' in own or 'left' in own:
                 k='taken' if 'taken' in own else 'left'
                 t2=own[k]
@@ -44,7 +47,8 @@ def facts(recs,rec):
                 out.append((f,'%s _ _ (%s .%s .%s)'%(lem,path,f,k)))
             elif 'gave' in str(own) or 'ensures' in own or f not in('args','good','fits','pre'):
                 if 'given' in own or 'keys' in str(own) or f=='match' or f.startswith('row-known'): continue
-                out.append((f,('← ' if re.sub(r'\d+$','',f) in TESTS else '')+path+' .%s .ensures'%f))
+                g=re.sub(r'\d+$','',f)
+                out.append((f,('← ' if g in TESTS else '')+path+' .%s .ensures'%f+(' .0' if g in PAIRS else '')))
         else:
             path+=' .before'; rec=r.get('before','').split(' ')[0] if 'before' in r else None
     return out
@@ -61,5 +65,5 @@ for fn in sys.argv[2:]:
         if not fs: return m.group(0)
         return n+' c = simp ('+', '.join(fs)+')'
     s=re.sub(r'(?m)^(returns\S*) c = \?',rep,s)
-    if lems and 'borrow.Author.Tests' not in s: s='use borrow.Author.Tests.{%s}\n'%', '.join(sorted(lems))+s
+    if lems and 'borrow.Author.Tests' not in s: s=s.replace('-- Assumes nothing.\n','-- Assumes nothing.\nuse borrow.Author.Tests.{%s}\n'%', '.join(sorted(lems)),1)
     open(p,'w').write(s); print(fn,'done')

@@ -1,6 +1,7 @@
 -- The driver value: order, mode, chip select, and the cache of DBT and SCKDIV.
 -- Assumes nothing.
 use Prim.Native.Nat.{ℕ}
+use Rattle.words.specs.declared.clock.ClockConfigs.{ClockConfigs}
 use Rattle.words.specs.declared.order.BitOrder.{BitOrder}
 use Rattle.words.specs.declared.order.BitOrder.the-variants.{Msb}
 use Rattle.words.specs.declared.mode.Mode.{Mode}
@@ -29,6 +30,10 @@ withMode m d = record { order = d .order; mode = m; pcs = d .pcs; cache = d .cac
 
 abbrev pub withPcs : Pcs → Lpspi → Lpspi
 withPcs p d = record { order = d .order; mode = d .mode; pcs = p; cache = d .cache }
+
+-- the cache takes DBT and SCKDIV
+abbrev pub withClock : ClockConfigs → Lpspi → Lpspi
+withClock c d = record { order = d .order; mode = d .mode; pcs = d .pcs; cache = record { dbt = c .dbt; sckdiv = c .sckdiv } }
 
 -- a command's word with the driver's order, mode and chip select
 abbrev pub driverCommand : Lpspi → ℕ → ℕ

@@ -2,6 +2,10 @@
 pub mod Driver
 pub mod Access
 pub mod Poll
-pub mod Reset
+pub mod Settings
+pub mod Status
+pub mod Sequence
+pub mod Recovery
 pub mod Transfer
 pub mod Flush
+pub mod Call

@@ -14,18 +14,19 @@ use Rattle.machine.specs.declared.access.Ending.{Ending}
 use Rattle.machine.specs.declared.access.Ending.the-variants.{Ok, Err}
 use Rattle.machine.specs.declared.driver.Lpspi.{Lpspi}
 use Rattle.machine.specs.declared.poll.Poll.{Poll}
-use Rattle.machine.specs.declared.poll.Poll.the-variants.{Status, Sizes, Counts}
+use Rattle.machine.specs.declared.poll.Poll.the-variants.{Status}
 use Rattle.machine.specs.declared.poll.Polled.{Polled}
 use Rattle.machine.specs.declared.poll.Polled.the-variants.{Failed, Next, Ready, Unready}
-use Rattle.machine.specs.declared.reset.Reset.{Reset}
+use Rattle.machine.specs.declared.sequence.Sequence.{Sequence}
 use Rattle.machine.specs.declared.transfer.Phase.{Phase}
 use Rattle.machine.specs.declared.transfer.Phase.the-variants.{Space, Command, Sending, Send, Receiving, Receive, Recovery, Ended}
 use Rattle.machine.specs.declared.transfer.Work.{Work}
 use Rattle.machine.specs.declared.transfer.Transfer.{Transfer}
 use Rattle.machine.specs.Poll.{pollAccess, polled}
-use Rattle.machine.specs.Reset.{resetStart, resetAccess, resetAfter, resetDone}
+use Rattle.machine.specs.Sequence.{sequenceStart}
+use Rattle.machine.specs.Recovery.{recoveryAccess, recoveryAfter, recovered}
 
-abbrev pub at : Phase → Work → Reset → Transfer
+abbrev pub at : Phase → Work → Sequence → Transfer
 at p w r = record { phase = p; work = w; reset = r }
 
 -- FIFO words to send and to receive, none of them done
@@ -34,11 +35,11 @@ work command send receive =
     record { command = command; send = send; receive = receive; sent = 0; received = 0 }
 
 abbrev pub startTransfer : Lpspi → ℕ → ℕ → ℕ → Transfer
-startTransfer d command send receive = at (Space Status) (work command send receive) (resetStart (d .cache))
+startTransfer d command send receive = at (Space Status) (work command send receive) (sequenceStart d)
 
 -- an empty transfer, or a refused one, makes no access
 abbrev pub endedTransfer : Lpspi → Ending → Transfer
-endedTransfer d e = at (Ended e) (work 0 0 0) (resetStart (d .cache))
+endedTransfer d e = at (Ended e) (work 0 0 0) (sequenceStart d)
 
 -- the sending side goes on while it has words left; then the receiving side; when both have ended, Ok
 abbrev pub sendTurn : Work → Phase
@@ -104,32 +105,32 @@ abbrev pub afterReceiving : Poll → Work → ℕ → Phase
 afterReceiving p w v = receivingBy w (polled Rx p v)
 
 -- the error is answered once the recovery is done
-abbrev pub afterRecovery : Direction → Reset → Phase
-afterRecovery d r = cond (resetDone r) (Ended (Err (Fifo d))) (Recovery d)
+abbrev pub afterRecovery : Direction → Sequence → Phase
+afterRecovery d r = cond (recovered r) (Ended (Err (Fifo d))) (Recovery d)
 
 -- THE ACCESS THAT IS DUE
-abbrev dueIn : Phase → Work → Reset → Access
+abbrev dueIn : Phase → Work → Sequence → Access
 dueIn (Space p) w r = pollAccess p
 dueIn Command w r = Write TCR (w .command)
 dueIn (Sending p) w r = pollAccess p
 dueIn Send w r = SendWord (w .sent)
 dueIn (Receiving p) w r = pollAccess p
 dueIn Receive w r = ReceiveWord (w .received)
-dueIn (Recovery d) w r = resetAccess r
+dueIn (Recovery d) w r = recoveryAccess r
 dueIn (Ended e) w r = Done e
 
 unfoldable pub dueAccess : Transfer → Access
 dueAccess t = dueIn (t .phase) (t .work) (t .reset)
 
 -- THE TRANSFER AFTER IT, which was answered v
-abbrev resumedIn : Phase → Work → Reset → ℕ → Transfer
+abbrev resumedIn : Phase → Work → Sequence → ℕ → Transfer
 resumedIn (Space p) w r v = at (afterSpace p v) w r
 resumedIn Command w r v = at (sendTurn w) w r
 resumedIn (Sending p) w r v = at (afterSending p w v) w r
 resumedIn Send w r v = at (sendTurn (oneSent w)) (oneSent w) r
 resumedIn (Receiving p) w r v = at (afterReceiving p w v) w r
 resumedIn Receive w r v = at (receiveTurn (oneReceived w)) (oneReceived w) r
-resumedIn (Recovery d) w r v = at (afterRecovery d (resetAfter r v)) w (resetAfter r v)
+resumedIn (Recovery d) w r v = at (afterRecovery d (recoveryAfter r v)) w (recoveryAfter r v)
 resumedIn (Ended e) w r v = at (Ended e) w r
 
 unfoldable pub resumed : Transfer → ℕ → Transfer

@@ -1,6 +1,7 @@
 // The driver value: what the Rust's `Lpspi` holds beside the registers.
 ghost use mathlib.Core.Path.{_≡_};
-ghost use Rattle.machine.specs.Driver.{startDriver, withOrder, withMode, withPcs, driverCommand};
+ghost use Rattle.machine.specs.Driver.{startDriver, withOrder, withMode, withPcs, withClock, driverCommand};
+use words::clock::ClockConfigs;
 use words::mode::MODE_0;
 use words::mode::Mode;
 use words::mode::Pcs;
@@ -45,7 +46,7 @@ impl Lpspi {
         self.pcs
     }
 
-    pub(crate) fn ccr_cache(self) -> CcrCache
+    pub fn ccr_cache(self) -> CcrCache
         ensures { λ r. ⌜ r ≡ self .cache ⌝ }
     {
         self.cache
@@ -90,6 +91,24 @@ impl Lpspi {
             mode,
             pcs,
             cache,
+        }
+    }
+
+    // The driver once its cache has this clock.
+    pub(crate) fn with_clock(self, clock: ClockConfigs) -> Self
+        ensures { λ r. ⌜ r ≡ withClock clock self ⌝ }
+    {
+        let order = self.order;
+        let mode = self.mode;
+        let pcs = self.pcs;
+        Lpspi {
+            order,
+            mode,
+            pcs,
+            cache: CcrCache {
+                dbt: clock.dbt,
+                sckdiv: clock.sckdiv,
+            },
         }
     }
 

@@ -35,7 +35,7 @@ pub(crate) fn poll_access(poll: Poll) -> Access
 }
 
 // The words that a FIFO of this exponent is taken to hold.
-fn depth(exponent: u32) -> u32
+pub fn depth(exponent: u32) -> u32
     ensures { λ r. ⌜ r ≡ depth exponent ⌝ }
 {
     exponent

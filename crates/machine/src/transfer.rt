@@ -8,7 +8,9 @@ use crate::poll::Poll;
 use crate::poll::Polled;
 use crate::poll::poll_access;
 use crate::poll::poll_answered;
-use crate::reset::Reset;
+use crate::recovery::recovered;
+use crate::recovery::recovery_move;
+use crate::sequence::Sequence;
 use manual::Register;
 use words::transaction::Direction;
 use words::transaction::LpspiError;
@@ -41,7 +43,7 @@ pub struct Work {
 pub struct Transfer {
     phase: Phase,
     work: Work,
-    reset: Reset,
+    reset: Sequence,
 }
 
 // The sending side's turn: it goes on if it has words left, else the receiving side, else the transfer has ended.
@@ -133,10 +135,10 @@ fn after_receiving(poll: Poll, work: Work, value: u32) -> Phase
     }
 }
 
-fn after_recovery(direction: Direction, reset: Reset) -> Phase
+fn after_recovery(direction: Direction, reset: Sequence) -> Phase
     ensures { λ r. ⌜ r ≡ afterRecovery direction reset ⌝ }
 {
-    if reset.done() {
+    if recovered(reset) {
         return Phase::Ended(Ending::Err(LpspiError::Fifo(direction)));
     }
     Phase::Recovery(direction)
@@ -156,7 +158,7 @@ impl Transfer {
                 sent: 0,
                 received: 0,
             },
-            reset: Reset::new(driver.ccr_cache()),
+            reset: Sequence::start(driver),
         }
     }
 
@@ -173,7 +175,7 @@ impl Transfer {
                 sent: 0,
                 received: 0,
             },
-            reset: Reset::new(driver.ccr_cache()),
+            reset: Sequence::start(driver),
         }
     }
 
@@ -203,7 +205,7 @@ impl Transfer {
             Phase::Receive => Access::Receive(work.received),
             Phase::Recovery(_) => {
                 let reset = self.reset;
-                reset.next()
+                reset.access(recovery_move(reset.place()))
             }
             Phase::Ended(e) => Access::Done(e),
         }
@@ -230,7 +232,7 @@ impl Transfer {
                 moved(receive_turn(w), w, reset)
             }
             Phase::Recovery(d) => {
-                let r = reset.answered(value);
+                let r = reset.moved(recovery_move(reset.place()), value);
                 moved(after_recovery(d, r), work, r)
             }
             Phase::Ended(e) => moved(Phase::Ended(e), work, reset),
@@ -238,7 +240,7 @@ impl Transfer {
     }
 }
 
-fn moved(phase: Phase, work: Work, reset: Reset) -> Transfer
+fn moved(phase: Phase, work: Work, reset: Sequence) -> Transfer
     ensures { λ r. ⌜ r ≡ at phase work reset ⌝ }
 {
     Transfer { phase, work, reset }

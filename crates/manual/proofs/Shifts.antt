@@ -11,7 +11,7 @@ use lib.Pow.{pow-pos, pow-add, shl-exact, shr-lt, shr-shr}
 use Rattle.manual.specs.Bits.{setBits}
 
 -- 1 << k
-one-shl : (k : ℕ) → k < 32 → 1 * 2 ^ k % 2 ^ 32 ≡ 2 ^ k
+pub one-shl : (k : ℕ) → k < 32 → 1 * 2 ^ k % 2 ^ 32 ≡ 2 ^ k
 one-shl k h = shl-exact {a = 1} 1 k 32 (lit< tt) (omega arith) ∙ one-mul (2 ^ k)
 
 -- (a << k) | b, where a has j bits and b has k

@@ -19,13 +19,13 @@ use Rattle.machine.specs.declared.driver.Lpspi.{Lpspi}
 use Rattle.machine.specs.declared.poll.Poll.{Poll}
 use Rattle.machine.specs.declared.poll.Poll.the-variants.{Status, Sizes, Counts}
 use Rattle.machine.specs.declared.poll.Polled.the-variants.{Failed, Next, Ready, Unready}
-use Rattle.machine.specs.declared.reset.Reset.{Reset}
+use Rattle.machine.specs.declared.sequence.Sequence.{Sequence}
 use Rattle.machine.specs.declared.transfer.Phase.{Phase}
 use Rattle.machine.specs.declared.transfer.Phase.the-variants.{Space, Command, Sending, Send, Receiving, Receive, Recovery, Ended}
 use Rattle.machine.specs.declared.transfer.Work.{Work}
 use Rattle.machine.specs.declared.transfer.Transfer.{Transfer}
 use Rattle.machine.specs.Poll.{failed, ready}
-use Rattle.machine.specs.Reset.{resetAfter, resetDone}
+use Rattle.machine.specs.Recovery.{recoveryAfter, recovered}
 use Rattle.machine.specs.Transfer.{at, startTransfer, sendTurn, receiveTurn, oneSent, oneReceived, spaceBy, sendingBy, receivingBy, dueAccess, resumed}
 use Rattle.runs.specs.Run.{Logged, State, start, halted, answerOf, endingOf, times, afterAccess, step, run}
 use Rattle.runs.specs.Unready.{unreadyIn, unready, unreadyPolls}
@@ -110,7 +110,7 @@ recovery-bill true d w made n = tt
 recovery-bill false d w made n = tt
 
 -- one access
-bill-on : (p : Phase) (w : Work) (r : Reset) (v made n used answers : ℕ) → halted (dueAccess (at p w r)) used answers ≡ false → Standing p w → Bill p w made n
+bill-on : (p : Phase) (w : Work) (r : Sequence) (v made n used answers : ℕ) → halted (dueAccess (at p w r)) used answers ≡ false → Standing p w → Bill p w made n
     → Billed (resumed (at p w r) (answerOf (dueAccess (at p w r)) v)) (made + 1) (n + unreadyIn p v)
 unfolding dueAccess resumed
 bill-on (Space Status) w r v made n used answers l t h = space-first (failed Tx v) w made n (omega arith)
@@ -125,7 +125,7 @@ bill-on (Receiving Status) w r v made n used answers l t h = receiving-first (fa
 bill-on (Receiving Sizes) w r v made n used answers l t h = omega arith
 bill-on (Receiving (Counts x)) w r v made n used answers l t h = receiving-bill (ready Rx x v) w made n h
 bill-on Receive w r v made n used answers l t h = receive-bill (oneReceived w) (made + 1) (n + 0) (omega (arith, counted-up (w .received) (w .receive) t))
-bill-on (Recovery d) w r v made n used answers l t h = recovery-bill (resetDone (resetAfter r (answerOf (dueAccess (at (Recovery d) w r)) v))) d w (made + 1) (n + 0)
+bill-on (Recovery d) w r v made n used answers l t h = recovery-bill (recovered (recoveryAfter r (answerOf (dueAccess (at (Recovery d) w r)) v))) d w (made + 1) (n + 0)
 bill-on (Ended e) w r v made n used answers l t h = absurd (let z : _≡_ {A = ℕ} 0 1 = cc in omega arith)
 
 longer : (t : Transfer) (l : List Logged) (x : Logged) (n : ℕ) → Billed t (length l + 1) n → Billed t (length (l ++ (x ∷ []))) n

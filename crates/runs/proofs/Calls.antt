@@ -7,8 +7,8 @@ use native.Mathlib.Omega.{arith}
 use Rattle.machine.specs.declared.driver.Lpspi.{Lpspi}
 use Rattle.machine.specs.declared.flush.Flush.the-variants.{Status}
 use Rattle.machine.specs.Flush.{flushAccess, flushed}
-use Rattle.runs.specs.Run.{limits, refused, ran, start}
-use Rattle.runs.specs.Flush.{noWords, flushStates, flushRun}
+use Rattle.runs.specs.Run.{limits, refused, ran, start, noWords}
+use Rattle.runs.specs.Flush.{flushStates, flushRun}
 use Rattle.runs.proofs.RunLaws.{run-log}
 
 pub flush-within : (d : Lpspi) (budget : ℕ) (script log : List ℕ) → flushRun d budget script log .result .accesses ≤ budget

@@ -15,8 +15,8 @@ use Rattle.machine.specs.declared.flush.Flush.{Flush}
 use Rattle.machine.specs.declared.flush.Flush.the-variants.{Status, Sizes, Counts, Ended}
 use Rattle.machine.specs.Flush.{flushAccess, flushed}
 use Rattle.runs.specs.declared.flush.Flushed.{Flushed}
-use Rattle.runs.specs.Run.{limits, Logged, codeOf, halted, ended, endingOf, times, State, start, step, afterAccess, run, left, logOver, put}
-use Rattle.runs.specs.Flush.{noWords, flushStates, FlushLeft, flushLeft, flushLoop, flushRun}
+use Rattle.runs.specs.Run.{limits, Logged, codeOf, halted, ended, endingOf, times, State, start, step, afterAccess, run, left, logOver, put, noWords}
+use Rattle.runs.specs.Flush.{flushStates, FlushLeft, flushLeft, flushLoop, flushRun}
 use Rattle.runs.proofs.RunLaws.{run-add, run-halted, run-last, log-put}
 
 -- a flush that has not ended reads: it is halted where the script is used up, and stopped where it halts

@@ -7,4 +7,6 @@ pub mod Bill
 pub mod Calls
 pub mod DriveLaws
 mod FlushLaws
+mod LoopLaws
+mod CallRunLaws
 mod TurnLaws

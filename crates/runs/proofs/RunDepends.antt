@@ -14,14 +14,15 @@ use Rattle.machine.specs.declared.access.Access.{Access}
 use Rattle.machine.specs.declared.access.Access.the-variants.{Read, Write, Send, Receive, Done}
 use Rattle.machine.specs.declared.poll.Poll.{Poll}
 use Rattle.machine.specs.declared.poll.Poll.the-variants.{Status, Sizes, Counts}
-use Rattle.machine.specs.declared.reset.Move.{Move}
-use Rattle.machine.specs.declared.reset.Move.the-variants.{Keep, KeepEnabled, Look, Wait, WriteCr, Put, ClearErrors}
-use Rattle.machine.specs.declared.reset.Reset.{Reset}
+use Rattle.machine.specs.declared.sequence.Move.{Move}
+use Rattle.machine.specs.declared.sequence.Move.the-variants.{Keep, KeepClock, Look, Wait, WaitClock, Size, Arrived, Modify, Set, Write as WriteMove, Put, End}
+use Rattle.machine.specs.declared.sequence.Sequence.{Sequence}
 use Rattle.machine.specs.declared.transfer.Phase.{Phase}
 use Rattle.machine.specs.declared.transfer.Phase.the-variants.{Space, Command, Sending, Send as SendPhase, Receiving, Receive as ReceivePhase, Recovery, Ended}
 use Rattle.machine.specs.declared.transfer.Work.{Work}
 use Rattle.machine.specs.Poll.{pollAccess}
-use Rattle.machine.specs.Reset.{moveAt, moveAccess}
+use Rattle.machine.specs.Sequence.{moveAccess}
+use Rattle.machine.specs.Recovery.{recoveryMove}
 use Rattle.machine.specs.Transfer.{at, dueAccess, resumed}
 use Rattle.runs.specs.Run.{Logged, codeOf, valueOf, usesOf, answerOf, receivedAfter, halted, times, State, afterAccess, step, run}
 use Rattle.runs.proofs.RunLaws.{step-log, run-log}
@@ -193,19 +194,24 @@ poll-reads Status = refl
 poll-reads Sizes = refl
 poll-reads (Counts param) = refl
 
-move-none : (x : Move) (r : Reset) → receives (moveAccess x r) ≡ 0
+move-none : (x : Move) (r : Sequence) → receives (moveAccess x r) ≡ 0
 move-none (Keep k) r = refl
-move-none KeepEnabled r = refl
-move-none Look r = refl
+move-none KeepClock r = refl
+move-none (Look k) r = refl
 move-none Wait r = refl
-move-none (WriteCr c) r = refl
+move-none (WaitClock c) r = refl
+move-none (Size k) r = refl
+move-none Arrived r = refl
+move-none (Modify c) r = refl
+move-none (Set c) r = refl
+move-none (WriteMove k w) r = refl
 move-none (Put k) r = refl
-move-none ClearErrors r = refl
+move-none End r = refl
 
 not-received : {A : Type 0} (a : Access) (i : ℕ) → receives a ≡ 0 → a ≡ Receive i → A
 not-received a i z e = absurd (let q : _≡_ {A = ℕ} 0 1 = sym z ∙ ap receives e in omega arith)
 
-blind-in : (p : Phase) (w : Work) (r : Reset) (i v u : ℕ) → dueAccess (at p w r) ≡ Receive i → resumed (at p w r) v ≡ resumed (at p w r) u
+blind-in : (p : Phase) (w : Work) (r : Sequence) (i v u : ℕ) → dueAccess (at p w r) ≡ Receive i → resumed (at p w r) v ≡ resumed (at p w r) u
 unfolding dueAccess resumed
 blind-in (Space q) w r i v u e = not-received (pollAccess q) i (poll-reads q) e
 blind-in Command w r i v u e = refl
@@ -213,7 +219,7 @@ blind-in (Sending q) w r i v u e = not-received (pollAccess q) i (poll-reads q) 
 blind-in SendPhase w r i v u e = refl
 blind-in (Receiving q) w r i v u e = not-received (pollAccess q) i (poll-reads q) e
 blind-in ReceivePhase w r i v u e = refl
-blind-in (Recovery d) w r i v u e = not-received (moveAccess (moveAt (r .place)) r) i (move-none (moveAt (r .place)) r) e
+blind-in (Recovery d) w r i v u e = not-received (moveAccess (recoveryMove (r .place)) r) i (move-none (recoveryMove (r .place)) r) e
 blind-in (Ended x) w r i v u e = refl
 
 pub transfer-blind : Blind dueAccess resumed

@@ -18,7 +18,7 @@ use Rattle.machine.specs.declared.access.Access.the-variants.{Read, Write, Send
 use Rattle.machine.specs.declared.driver.Lpspi.{Lpspi}
 use Rattle.machine.specs.declared.poll.Poll.{Poll}
 use Rattle.machine.specs.declared.poll.Poll.the-variants.{Status, Sizes, Counts}
-use Rattle.machine.specs.declared.reset.Reset.{Reset}
+use Rattle.machine.specs.declared.sequence.Sequence.{Sequence}
 use Rattle.machine.specs.declared.transfer.Phase.{Phase}
 use Rattle.machine.specs.declared.transfer.Phase.the-variants.{Space, Command, Sending, Send, Receiving, Receive}
 use Rattle.machine.specs.declared.transfer.Work.{Work}
@@ -57,7 +57,7 @@ module _ (f : Frame) (script send old olds : List ℕ) (m : Transfer) where
       u′ (spot made′ used′ got) (put log made (offsetOf g) (getD script used 0)) words r (sym n) em es refl (length-put log made (offsetOf g) (getD script used 0)) refl refl
 
   -- THE THREE READS OF A POLL
-  stands-poll : (p : Poll → Phase) (w : Work) (r : Reset) (u : Transfer) (made used got : ℕ) (log words : List ℕ) → Stands f script send old olds m (at (p Status) w r) (spot made used got) log words
+  stands-poll : (p : Poll → Phase) (w : Work) (r : Sequence) (u : Transfer) (made used got : ℕ) (log words : List ℕ) → Stands f script send old olds m (at (p Status) w r) (spot made used got) log words
       → used + 3 ≤ length script → 2 * (made + 3) ≤ length old → ((q : Poll) → dueAccess (at (p q) w r) ≡ pollAccess q)
       → resumed (at (p Status) w r) (getD script used 0) ≡ at (p Sizes) w r
       → resumed (at (p Sizes) w r) (getD script (used + 1) 0) ≡ at (p (Counts (getD script (used + 1) 0))) w r
@@ -73,7 +73,7 @@ module _ (f : Frame) (script send old olds : List ℕ) (m : Transfer) where
 
   module _ (budget made used got : ℕ) (log log′ words : List ℕ) (wide : 2 * budget ≤ length log) where
     -- in one of the three places, with what follows it
-    module _ (d : Direction) (p : Poll → Phase) (w : Work) (r : Reset) (is : Bool) (whole : Whole d made used budget script log log′ is)
+    module _ (d : Direction) (p : Poll → Phase) (w : Work) (r : Sequence) (is : Bool) (whole : Whole d made used budget script log log′ is)
         (h : Stands f script send old olds m (at (p Status) w r) (spot made used got) log words) where
       polled : (u : Transfer) → ((q : Poll) → dueAccess (at (p q) w r) ≡ pollAccess q)
           → resumed (at (p Status) w r) (getD script used 0) ≡ at (p Sizes) w r
@@ -84,26 +84,26 @@ module _ (f : Frame) (script send old olds : List ℕ) (m : Transfer) where
           subst (λ (l : List ℕ). Stands f script send old olds m u (spot (made + 3) (used + 3) got) l words) (sym (whole .logged))
           (stands-poll p w r u made used got log words h (omega (arith, whole .answers)) (omega (arith, whole .room, h .size)) due r₀ r₁ r₂)
 
-    pub space-polled : (w : Work) (r : Reset) (is : Bool) → Whole Tx made used budget script log log′ is → Stands f script send old olds m (at (Space Status) w r) (spot made used got) log words
+    pub space-polled : (w : Work) (r : Sequence) (is : Bool) → Whole Tx made used budget script log log′ is → Stands f script send old olds m (at (Space Status) w r) (spot made used got) log words
         → Stands f script send old olds m (at (cond is Command (Space Status)) w r) (spot (made + 3) (used + 3) got) log′ words
     unfolding dueAccess resumed
     space-polled w r true whole h = polled Tx Space w r true whole h (at Command w r) (λ q. refl) (rw (whole .clear)) refl (rw (whole .shown))
     space-polled w r false whole h = polled Tx Space w r false whole h (at (Space Status) w r) (λ q. refl) (rw (whole .clear)) refl (rw (whole .shown))
 
-    sending-polled : (w : Work) (r : Reset) (is : Bool) → Whole Tx made used budget script log log′ is → Stands f script send old olds m (at (Sending Status) w r) (spot made used got) log words
+    sending-polled : (w : Work) (r : Sequence) (is : Bool) → Whole Tx made used budget script log log′ is → Stands f script send old olds m (at (Sending Status) w r) (spot made used got) log words
         → Stands f script send old olds m (at (cond is Send (receiveTurn w)) w r) (spot (made + 3) (used + 3) got) log′ words
     unfolding dueAccess resumed
     sending-polled w r true whole h = polled Tx Sending w r true whole h (at Send w r) (λ q. refl) (rw (whole .clear)) refl (rw (whole .shown))
     sending-polled w r false whole h = polled Tx Sending w r false whole h (at (receiveTurn w) w r) (λ q. refl) (rw (whole .clear)) refl (rw (whole .shown))
 
-    receiving-polled : (w : Work) (r : Reset) (is : Bool) → Whole Rx made used budget script log log′ is → Stands f script send old olds m (at (Receiving Status) w r) (spot made used got) log words
+    receiving-polled : (w : Work) (r : Sequence) (is : Bool) → Whole Rx made used budget script log log′ is → Stands f script send old olds m (at (Receiving Status) w r) (spot made used got) log words
         → Stands f script send old olds m (at (cond is Receive (sendTurn w)) w r) (spot (made + 3) (used + 3) got) log′ words
     unfolding dueAccess resumed
     receiving-polled w r true whole h = polled Rx Receiving w r true whole h (at Receive w r) (λ q. refl) (rw (whole .clear)) refl (rw (whole .shown))
     receiving-polled w r false whole h = polled Rx Receiving w r false whole h (at (sendTurn w) w r) (λ q. refl) (rw (whole .clear)) refl (rw (whole .shown))
 
     -- THE COMMAND
-    pub space-commands : (w : Work) (r : Reset) (log″ : List ℕ) → Whole Tx made used budget script log log′ true → log″ ≡ put log′ (made + 3) (0x1000 + offsetOf TCR) (w .command)
+    pub space-commands : (w : Work) (r : Sequence) (log″ : List ℕ) → Whole Tx made used budget script log log′ true → log″ ≡ put log′ (made + 3) (0x1000 + offsetOf TCR) (w .command)
         → Stands f script send old olds m (at (Space Status) w r) (spot made used got) log words
         → Stands f script send old olds m (at (sendTurn w) w r) (spot (made + 4) (used + 3) got) log″ words
     unfolding dueAccess resumed
@@ -117,7 +117,7 @@ module _ (f : Frame) (script send old olds : List ℕ) (m : Transfer) where
     abbrev w : Work
     w = worked sent got (m .work)
 
-    abbrev r : Reset
+    abbrev r : Sequence
     r = m .reset
 
     more-to-send : ltb sent (n .send) ≡ true → ltb sent (m .work .send) ≡ true

@@ -6,24 +6,25 @@ use mathlib.Core.List.{List, [], _∷_}
 use mathlib.Core.Path.{_≡_, refl, ap}
 use native.Mathlib.Numerals.{add-one}
 use native.Mathlib.Omega.{arith}
-use lib.Dec.{ltb}
+use lib.Dec.{leb, ltb}
 use lib.ListN.{length, getD, drop}
-use borrow.Author.Tests.{leb-false}
+use borrow.Author.Tests.{ltb-true, ltb-false, le-leb}
 use Rattle.words.specs.declared.transaction.Direction.{Direction}
 use Rattle.words.specs.declared.transaction.LpspiError.the-variants.{Fifo}
 use Rattle.machine.specs.declared.access.Ending.the-variants.{Ok, Err}
 use Rattle.machine.specs.declared.flush.Flush.{Flush}
 use Rattle.machine.specs.declared.flush.Flush.the-variants.{Status, Sizes, Counts, Ended as FlushEnded}
 use Rattle.machine.specs.declared.poll.Poll.the-variants.{Status as PollStatus, Sizes as PollSizes, Counts as PollCounts}
-use Rattle.machine.specs.declared.reset.Move.{Move}
-use Rattle.machine.specs.declared.reset.Move.the-variants.{Keep, KeepEnabled, Look, Wait, WriteCr, Put, ClearErrors}
-use Rattle.machine.specs.declared.reset.Reset.{Reset}
+use Rattle.machine.specs.declared.sequence.Move.{Move}
+use Rattle.machine.specs.declared.sequence.Move.the-variants.{Keep, KeepClock, Look, Wait, WaitClock, Size, Arrived, Modify, Set, Write as WriteMove, Put, End}
+use Rattle.machine.specs.declared.sequence.Sequence.{Sequence}
 use Rattle.machine.specs.declared.transfer.Phase.{Phase}
 use Rattle.machine.specs.declared.transfer.Phase.the-variants.{Space, Command, Sending, Send, Receiving, Receive, Recovery, Ended}
 use Rattle.machine.specs.declared.transfer.Work.{Work}
 use Rattle.machine.specs.declared.transfer.Transfer.{Transfer}
 use Rattle.machine.specs.Flush.{flushAccess, flushed}
-use Rattle.machine.specs.Reset.{recovery, moveAt, moveAccess, moved, onward, resetAfter, resetDone}
+use Rattle.machine.specs.Sequence.{moveAccess, moved, onward}
+use Rattle.machine.specs.Recovery.{recovery, recoveryMove, recovered}
 use Rattle.machine.specs.Transfer.{at, sendTurn, oneSent, afterRecovery, dueAccess, resumed}
 use Rattle.runs.specs.Run.{State, ended, usesOf, run}
 use Rattle.runs.specs.Unlimited.{Unlimited}
@@ -33,12 +34,17 @@ use Rattle.runs.proofs.RunUnlimited.{run-unlimited}
 
 abbrev writes : Move → Bool
 writes (Keep k) = false
-writes KeepEnabled = false
-writes Look = false
+writes KeepClock = false
+writes (Look k) = false
 writes Wait = false
-writes (WriteCr c) = true
+writes (WaitClock c) = false
+writes (Size k) = false
+writes Arrived = false
+writes (Modify c) = true
+writes (Set c) = true
+writes (WriteMove k w) = true
 writes (Put k) = true
-writes ClearErrors = true
+writes End = false
 
 -- the writes before the next read
 abbrev leading : List Move → ℕ
@@ -60,7 +66,7 @@ recovery-leading : (i : ℕ) → leading (drop i recovery) ≤ 9
 recovery-leading i = leading-most recovery i
 
 -- at a write there is one more before the next read than after it
-leading-next : (l : List Move) (i : ℕ) → i < length l → writes (getD l i ClearErrors) ≡ true → leading (drop i l) ≡ suc (leading (drop (suc i) l))
+leading-next : (l : List Move) (i : ℕ) → i < length l → writes (getD l i (recoveryMove 27)) ≡ true → leading (drop i l) ≡ suc (leading (drop (suc i) l))
 leading-next [] i h e = absurd (omega arith)
 leading-next (m ∷ l) zero h e = rw e
 leading-next (m ∷ l) (suc i) h e = leading-next l i (omega arith) e
@@ -100,32 +106,37 @@ turn-reads w place = by-test (ltb (w .sent) (w .send)) (ltb (w .received) (w .re
     by-test false false = refl
 
 -- a write of the recovery
-recovery-write : (d : Direction) (r : Reset) → resetDone r ≡ false → writes (moveAt (r .place)) ≡ true
-    → pendingIn (afterRecovery d (onward r)) (r .place + 1) < 1 + leading (drop (r .place) recovery)
-recovery-write d r h e = by-test (resetDone (onward r))
+recovery-write : (d : Direction) (r : Sequence) → writes (recoveryMove (r .place)) ≡ true
+    → pendingIn (afterRecovery d (onward r)) (onward r .place) < 1 + leading (drop (r .place) recovery)
+recovery-write d r e = by-place (ltb (r .place) 27) refl
   where
-    by-test : (t : Bool) → pendingIn (cond t (Ended (Err (Fifo d))) (Recovery d)) (r .place + 1) < 1 + leading (drop (r .place) recovery)
-    by-test true = omega arith
-    by-test false =
-        let fact = leading-next recovery (r .place) (leb-false (length recovery) (r .place) h) e in
+    by-done : (t : Bool) → r .place < 27 → pendingIn (cond t (Ended (Err (Fifo d))) (Recovery d)) (r .place + 1) < 1 + leading (drop (r .place) recovery)
+    by-done true h = omega arith
+    by-done false h =
+        let fact = leading-next recovery (r .place) h e in
         rw (add-one (r .place)) (omega (arith, fact))
 
-recovery-fewer : (m : Move) (d : Direction) (r : Reset) → moveAt (r .place) ≡ m → usesOf (moveAccess m r) ≡ 0
-    → pendingIn (afterRecovery d (resetAfter r 0)) (resetAfter r 0 .place) < 1 + leading (drop (r .place) recovery)
-recovery-fewer m d r em u = by-test (resetDone r) refl m em u
-  where
-    by-test : (t : Bool) → resetDone r ≡ t → (m : Move) → moveAt (r .place) ≡ m → usesOf (moveAccess m r) ≡ 0
-        → pendingIn (afterRecovery d (cond t r (moved (moveAt (r .place)) r 0))) (cond t r (moved (moveAt (r .place)) r 0) .place) < 1 + leading (drop (r .place) recovery)
-    by-test true t m em u = rw t (omega arith)
-    by-test false t (Keep k) em u = absurd (omega arith)
-    by-test false t KeepEnabled em u = absurd (omega arith)
-    by-test false t Look em u = absurd (omega arith)
-    by-test false t Wait em u = absurd (omega arith)
-    by-test false t (WriteCr c) em u = rw em (recovery-write d r t (ap writes em))
-    by-test false t (Put k) em u = rw em (recovery-write d r t (ap writes em))
-    by-test false t ClearErrors em u = rw em (recovery-write d r t (ap writes em))
+    by-place : (t : Bool) → ltb (r .place) 27 ≡ t
+        → pendingIn (cond (leb 27 (cond t (r .place + 1) (r .place))) (Ended (Err (Fifo d))) (Recovery d)) (cond t (r .place + 1) (r .place)) < 1 + leading (drop (r .place) recovery)
+    by-place true t = by-done (leb 27 (r .place + 1)) (ltb-true (r .place) 27 t)
+    by-place false t = rw (le-leb 27 (r .place) (ltb-false (r .place) 27 t)) (omega arith)
 
-fewer : (p : Phase) (w : Work) (r : Reset) → ended (dueAccess (at p w r)) ≡ false → usesOf (dueAccess (at p w r)) ≡ 0 → pending (resumed (at p w r) 0) < pending (at p w r)
+recovery-fewer : (m : Move) (d : Direction) (r : Sequence) → recoveryMove (r .place) ≡ m → ended (moveAccess m r) ≡ false → usesOf (moveAccess m r) ≡ 0
+    → pendingIn (afterRecovery d (moved m r 0)) (moved m r 0 .place) < 1 + leading (drop (r .place) recovery)
+recovery-fewer (Keep k) d r em e u = absurd (omega arith)
+recovery-fewer KeepClock d r em e u = absurd (omega arith)
+recovery-fewer (Look k) d r em e u = absurd (omega arith)
+recovery-fewer Wait d r em e u = absurd (omega arith)
+recovery-fewer (WaitClock c) d r em e u = absurd (omega arith)
+recovery-fewer (Size k) d r em e u = absurd (omega arith)
+recovery-fewer Arrived d r em e u = absurd (omega arith)
+recovery-fewer (Modify c) d r em e u = recovery-write d r (ap writes em)
+recovery-fewer (Set c) d r em e u = recovery-write d r (ap writes em)
+recovery-fewer (WriteMove k w) d r em e u = recovery-write d r (ap writes em)
+recovery-fewer (Put k) d r em e u = recovery-write d r (ap writes em)
+recovery-fewer End d r em e u = absurd (let z : _≡_ {A = ℕ} 0 1 = cc in omega arith)
+
+fewer : (p : Phase) (w : Work) (r : Sequence) → ended (dueAccess (at p w r)) ≡ false → usesOf (dueAccess (at p w r)) ≡ 0 → pending (resumed (at p w r) 0) < pending (at p w r)
 unfolding dueAccess resumed pending
 fewer (Space PollStatus) w r e u = absurd (omega arith)
 fewer (Space PollSizes) w r e u = absurd (omega arith)
@@ -139,7 +150,7 @@ fewer (Receiving PollStatus) w r e u = absurd (omega arith)
 fewer (Receiving PollSizes) w r e u = absurd (omega arith)
 fewer (Receiving (PollCounts x)) w r e u = absurd (omega arith)
 fewer Receive w r e u = absurd (omega arith)
-fewer (Recovery d) w r e u = recovery-fewer (moveAt (r .place)) d r refl u
+fewer (Recovery d) w r e u = recovery-fewer (recoveryMove (r .place)) d r refl e u
 fewer (Ended x) w r e u = absurd (let z : _≡_ {A = ℕ} 0 1 = cc in omega arith)
 
 -- 11 * (length script + 1) ACCESSES ARE ENOUGH FOR A TRANSFER, wherever it stands

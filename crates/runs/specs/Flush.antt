@@ -9,11 +9,7 @@ use Rattle.machine.specs.declared.flush.Flush.{Flush}
 use Rattle.machine.specs.declared.flush.Flush.the-variants.{Status}
 use Rattle.machine.specs.Flush.{flushAccess, flushed}
 use Rattle.runs.specs.declared.flush.Flushed.{Flushed}
-use Rattle.runs.specs.Run.{State, Left, limits, refused, run, start, endingOf, logOver, ran}
-
--- a flush sends no word
-abbrev pub noWords : List ℕ → ℕ → ℕ
-noWords received i = 0
+use Rattle.runs.specs.Run.{State, Left, limits, refused, run, start, noWords, endingOf, logOver, ran}
 
 abbrev pub flushStates : List ℕ → ℕ → State Flush
 flushStates script budget = run flushAccess flushed noWords script budget (start Status)

@@ -1,6 +1,7 @@
 -- Read in this order.
 pub mod Run
 pub mod Flush
+pub mod Call
 pub mod Unlimited
 pub mod Unready
 pub mod Drive

@@ -119,6 +119,10 @@ module _ {M : Type 0} (next : M → Access) (resume : M → ℕ → M) (words : 
   abbrev pub run : ℕ → State M → State M
   run = times step
 
+-- of calls that send no FIFO word
+abbrev pub noWords : List ℕ → ℕ → ℕ
+noWords received i = 0
+
 -- how a run ended: what the machine answers, or Stopped where an access was due
 abbrev pub endingOf : Access → Ending
 endingOf (Read r) = Stopped

@@ -42,7 +42,7 @@ pub struct Driven {
 }
 
 // The next answer.
-fn answer(script: &[u32], used: usize) -> u32
+pub(crate) fn answer(script: &[u32], used: usize) -> u32
     ensures { λ r. ⌜ r ≡ getD (now (script .entry)) used 0 ⌝ }
 {
     if used < script.len() { script[used] } else { 0 }

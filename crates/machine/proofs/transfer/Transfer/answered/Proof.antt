@@ -68,20 +68,26 @@ moved-requires-6 c κs = search needs
 enum-known-phase-4 : tie.Need-enum-known-phase-4
 enum-known-phase-4 c = search needs
 
-answered-requires : tie.Need-answered-requires
-answered-requires c κs = search needs
+place-requires : tie.Need-place-requires
+place-requires c κs = search needs
 
-after-recovery-requires : tie.Need-after-recovery-requires
-after-recovery-requires c κs = search needs
+recovery-move-requires : tie.Need-recovery-move-requires
+recovery-move-requires c κs = search needs
 
 moved-requires-7 : tie.Need-moved-requires-7
 moved-requires-7 c κs = search needs
 
-enum-known-phase-5 : tie.Need-enum-known-phase-5
-enum-known-phase-5 c = search needs
+after-recovery-requires : tie.Need-after-recovery-requires
+after-recovery-requires c κs = search needs
 
 moved-requires-8 : tie.Need-moved-requires-8
 moved-requires-8 c κs = search needs
+
+enum-known-phase-5 : tie.Need-enum-known-phase-5
+enum-known-phase-5 c = search needs
+
+moved-requires-9 : tie.Need-moved-requires-9
+moved-requires-9 c κs = search needs
 
 returns : tie.Need-returns
 unfolding resumed
@@ -109,11 +115,11 @@ returns-6 c = simp (c .before .before .before .enum-told3 .given .1, c .before .
 
 returns-7 : tie.Need-returns-7
 unfolding resumed
-returns-7 c = simp (c .before .before .before .before .phase4 .given .1, c .before .before .answered .ensures, c .before .after-recovery .ensures, c .moved7 .ensures)
+returns-7 c = simp (c .before .before .before .before .before .before .phase4 .given .1, c .before .before .before .before .place .ensures, c .before .before .before .recovery-move .ensures, c .before .before .moved7 .ensures, c .before .after-recovery .ensures, c .moved8 .ensures)
 
 returns-8 : tie.Need-returns-8
 unfolding resumed
-returns-8 c = simp (c .before .before .phase5 .given .1, c .moved8 .ensures)
+returns-8 c = simp (c .before .before .phase5 .given .1, c .moved9 .ensures)
 
 pub answered-spec : {M : Type 1} → statement M
 answered-spec =
@@ -140,11 +146,13 @@ answered-spec =
     receive-turn-requires
     moved-requires-6
     enum-known-phase-4
-    answered-requires
-    after-recovery-requires
+    place-requires
+    recovery-move-requires
     moved-requires-7
-    enum-known-phase-5
+    after-recovery-requires
     moved-requires-8
+    enum-known-phase-5
+    moved-requires-9
     returns
     returns-2
     returns-3

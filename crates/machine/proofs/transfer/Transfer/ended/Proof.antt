@@ -1,17 +1,14 @@
--- `Transfer::ended` meets its contract: each branch is the definition's.
+-- `Transfer::ended` meets its contract.
 -- Assumes nothing.
 use borrow.Author.Needs.{needs}
 use Rattle.machine.proofs.transfer.Transfer.ended.Statement.{statement}
 use Rattle.machine.proofs.transfer.Transfer.ended.Tie as tie
 
-ccr-cache-requires : tie.Need-ccr-cache-requires
-ccr-cache-requires c κs = search needs
-
-new-requires : tie.Need-new-requires
-new-requires c κs = search needs
+start-requires : tie.Need-start-requires
+start-requires c κs = search needs
 
 returns : tie.Need-returns
-returns c = simp (c .before .ccr-cache .ensures, c .new .ensures)
+returns c = simp (c .start .ensures)
 
 pub ended-spec : {M : Type 1} → statement M
-ended-spec = tie.close (tie.spec ccr-cache-requires new-requires returns)
+ended-spec = tie.close (tie.spec start-requires returns)

@@ -1,4 +1,4 @@
--- `Transfer::start` meets its contract: each branch is the definition's.
+-- `Transfer::start` meets its contract.
 -- Assumes nothing.
 use borrow.Author.Needs.{needs}
 use Rattle.machine.proofs.transfer.Transfer.start.Statement.{statement}
@@ -7,14 +7,11 @@ use Rattle.machine.proofs.transfer.Transfer.start.Tie as tie
 as-raw-requires : tie.Need-as-raw-requires
 as-raw-requires c κs = search needs
 
-ccr-cache-requires : tie.Need-ccr-cache-requires
-ccr-cache-requires c κs = search needs
-
-new-requires : tie.Need-new-requires
-new-requires c κs = search needs
+start-requires : tie.Need-start-requires
+start-requires c κs = search needs
 
 returns : tie.Need-returns
-returns c = simp (c .before .before .as-raw .ensures, c .before .ccr-cache .ensures, c .new .ensures)
+returns c = simp (c .before .as-raw .ensures, c .start .ensures)
 
 pub start-spec : {M : Type 1} → statement M
-start-spec = tie.close (tie.spec as-raw-requires ccr-cache-requires new-requires returns)
+start-spec = tie.close (tie.spec as-raw-requires start-requires returns)

@@ -1,0 +1,3 @@
+-- Read in this order.
+pub mod Values
+pub mod Calls

@@ -1,0 +1,27 @@
+-- `disabled_polarity` meets its contract: its table.
+-- Assumes nothing.
+use mathlib.Core.Path.{sym}
+use native.Mathlib.Omega.{arith}
+use lib.ListN.{List·getD-eq-default}
+use Rattle.machine.specs.declared.call.Call.the-variants.{SetChipSelectPolarity}
+use Rattle.machine.specs.Call.{movesOf}
+use Rattle.machine.specs.declared.sequence.Move.the-variants.{End}
+use Rattle.machine.proofs.Lists.{within}
+use borrow.Author.Needs.{needs}
+use Rattle.machine.proofs.call.disabled_polarity.Statement.{statement}
+use Rattle.machine.proofs.call.disabled_polarity.Tie as tie
+
+mul-result : tie.Need-mul-result
+mul-result c = search needs
+
+array-copy-out-result : tie.Need-array-copy-out-result
+array-copy-out-result c = search needs
+
+returns : tie.Need-returns
+returns c = within (movesOf (SetChipSelectPolarity (c .before .before .args .pcs) (c .before .before .args .polarity))) (c .before .before .args .place) _ End (omega arith)
+
+returns-2 : tie.Need-returns-2
+returns-2 c = sym (List·getD-eq-default (movesOf (SetChipSelectPolarity (c .before .args .pcs) (c .before .args .polarity))) End {n = c .before .args .place} (c .if1 .left))
+
+pub disabled-polarity-spec : {M : Type 1} → statement M
+disabled-polarity-spec = tie.close (tie.spec mul-result array-copy-out-result returns returns-2)

@@ -1,0 +1,26 @@
+-- `three` meets its contract: its table.
+-- Assumes nothing.
+use mathlib.Core.Path.{sym}
+use mathlib.Core.List.{[], _∷_}
+use native.Mathlib.Omega.{arith}
+use lib.ListN.{List·getD-eq-default}
+use Rattle.machine.specs.declared.sequence.Move.the-variants.{End}
+use Rattle.machine.proofs.Lists.{within}
+use borrow.Author.Needs.{needs}
+use Rattle.machine.proofs.call.three.Statement.{statement}
+use Rattle.machine.proofs.call.three.Tie as tie
+
+mul-result : tie.Need-mul-result
+mul-result c = search needs
+
+array-copy-out-result : tie.Need-array-copy-out-result
+array-copy-out-result c = search needs
+
+returns : tie.Need-returns
+returns c = within (c .before .before .args .a ∷ c .before .before .args .b ∷ c .before .before .args .c ∷ []) (c .before .before .args .place) _ End (omega arith)
+
+returns-2 : tie.Need-returns-2
+returns-2 c = sym (List·getD-eq-default (c .before .args .a ∷ c .before .args .b ∷ c .before .args .c ∷ []) End {n = c .before .args .place} (c .if1 .left))
+
+pub three-spec : {M : Type 1} → statement M
+three-spec = tie.close (tie.spec mul-result array-copy-out-result returns returns-2)

@@ -1,0 +1,78 @@
+-- The other calls of the module, each the table of its moves, in the Rust's order.
+-- Assumes nothing.
+use Prim.Native.Nat.{ℕ}
+use mathlib.Core.Bool.{Bool, true, false, cond}
+use mathlib.Core.List.{List, [], _∷_, _++_}
+use lib.ListN.{getD}
+use Rattle.manual.specs.declared.Register.the-variants.{PARAM, CR, SR, CFGR1, CCR, FCR, FSR, TCR, TDR, RDR}
+use Rattle.words.specs.declared.clock.ClockConfigs.{ClockConfigs}
+use Rattle.words.specs.declared.transaction.Direction.the-variants.{Tx}
+use Rattle.words.specs.Clock.{clockWord}
+use Rattle.machine.specs.declared.access.Access.{Access}
+use Rattle.machine.specs.declared.access.Access.the-variants.{Done}
+use Rattle.machine.specs.declared.access.Ending.the-variants.{FifoExponent}
+use Rattle.machine.specs.declared.call.Call.{Call}
+use Rattle.machine.specs.declared.call.Call.the-variants.{SoftReset, RecoverFromError, Init, GetWatermark, SetWatermark, GetStatus, ClearStatus, IsEnabled, SetEnable, ClearFifo, GetFifoStatus, ReadData, EnqueueData, EnqueueTransaction, SetClockConfigs, SetSamplePoint, SetPeripheralEnable, SetChipSelectPolarity}
+use Rattle.machine.specs.declared.sequence.Change.{Change}
+use Rattle.machine.specs.declared.sequence.Change.the-variants.{Reset, Release, ClearFifos, ClearFifo as ClearOne, Enable, Restore, Controller, HalfFull, Watermark, Sample, Peripheral, Polarity}
+use Rattle.machine.specs.declared.sequence.Move.{Move}
+use Rattle.machine.specs.declared.sequence.Move.the-variants.{Keep, Look, Wait, WaitClock, Size, Arrived, Modify, Set, Write, End}
+use Rattle.machine.specs.declared.sequence.Sequence.{Sequence}
+use Rattle.machine.specs.Sequence.{changeRegister, moveAccess, moved}
+use Rattle.machine.specs.Recovery.{softReset, clearStatus, recovery}
+
+-- a read, then a write with only the named fields changed
+abbrev pub modify : Change → List Move
+modify c = Look (changeRegister c) ∷ Modify c ∷ []
+
+-- reset and disabled; FIFOs cleared; controller; watermarks by the transmit FIFO's size; enabled
+abbrev pub init : List Move
+init =
+    Look CR
+    ∷ Modify Reset
+    ∷ Wait
+    ∷ Look CR
+    ∷ Modify Release
+    ∷ Look CR
+    ∷ Modify ClearFifos
+    ∷ Set Controller
+    ∷ Size Tx
+    ∷ Set HalfFull
+    ∷ Set (Enable true)
+    ∷ []
+
+-- a disabled operation: entry (MEN kept and set to 0, then the wait), operation, restore of MEN
+abbrev pub disabled : Move → List Move → List Move
+disabled wait operation = Keep CR ∷ Look CR ∷ Modify (Enable false) ∷ wait ∷ operation ++ modify Restore
+
+abbrev pub movesOf : Call → List Move
+movesOf SoftReset = softReset
+movesOf RecoverFromError = recovery
+movesOf Init = init
+movesOf GetWatermark = Look FCR ∷ []
+movesOf (SetWatermark d watermark) = Size d ∷ modify (Watermark d watermark)
+movesOf GetStatus = Look SR ∷ []
+movesOf (ClearStatus flags) = clearStatus (flags .bits)
+movesOf IsEnabled = Look CR ∷ []
+movesOf (SetEnable on) = modify (Enable on)
+movesOf (ClearFifo d) = modify (ClearOne d)
+movesOf GetFifoStatus = Keep PARAM ∷ Look FSR ∷ []
+movesOf ReadData = Arrived ∷ Look RDR ∷ []
+movesOf (EnqueueData word) = Write TDR word ∷ []
+movesOf (EnqueueTransaction t) = Write TCR (t .0) ∷ []
+movesOf (SetClockConfigs c) = disabled (WaitClock c) (Write CCR (clockWord c) ∷ [])
+movesOf (SetSamplePoint p) = disabled Wait (modify (Sample p))
+movesOf (SetPeripheralEnable on) = disabled Wait (modify (Peripheral on))
+movesOf (SetChipSelectPolarity pcs p) = disabled Wait (Keep CFGR1 ∷ modify (Polarity pcs p))
+
+-- THE MACHINE OF A CALL
+
+abbrev pub moveAt : List Move → ℕ → Move
+moveAt moves place = getD moves place End
+
+-- 7 right after PARAM was read; else the move that is due
+unfoldable pub callAccess : Call → Sequence → Access
+callAccess c s = cond (s .refused) (Done FifoExponent) (moveAccess (moveAt (movesOf c) (s .place)) s)
+
+unfoldable pub callAfter : Call → Sequence → ℕ → Sequence
+callAfter c s v = moved (moveAt (movesOf c) (s .place)) s v

@@ -1,0 +1,206 @@
+// The calls beside transfer and flush: each is the table of its moves.
+ghost use mathlib.Core.Path.{_≡_};
+ghost use mathlib.Core.List.{[], _∷_};
+ghost use Rattle.machine.specs.declared.call.Call.the-variants.{SetClockConfigs, SetChipSelectPolarity};
+ghost use Rattle.machine.specs.declared.sequence.Move.the-variants.{Wait};
+ghost use Rattle.machine.specs.Call.{modify, init, disabled, movesOf, moveAt, callAccess, callAfter};
+use crate::access::Access;
+use crate::access::Ending;
+use crate::recovery::recover_from_error;
+use crate::recovery::soft_reset;
+use crate::sequence::Change;
+use crate::sequence::Move;
+use crate::sequence::Sequence;
+use crate::settings::PcsPolarity;
+use crate::settings::SamplePoint;
+use crate::status::Status;
+use manual::Register;
+use words::clock::ClockConfigs;
+use words::mode::Pcs;
+use words::transaction::Direction;
+use words::transaction::Transaction;
+
+pub enum Call {
+    SoftReset,
+    RecoverFromError,
+    Init,
+    GetWatermark,
+    SetWatermark(Direction, u8),
+    GetStatus,
+    ClearStatus(Status),
+    IsEnabled,
+    SetEnable(bool),
+    ClearFifo(Direction),
+    GetFifoStatus,
+    ReadData,
+    EnqueueData(u32),
+    EnqueueTransaction(Transaction),
+    SetClockConfigs(ClockConfigs),
+    SetSamplePoint(SamplePoint),
+    SetPeripheralEnable(bool),
+    SetChipSelectPolarity(Pcs, PcsPolarity),
+}
+
+// THE TABLES: the move at a place, and End past them.
+
+fn one(a: Move, place: usize) -> Move
+    ensures { λ r. ⌜ r ≡ moveAt (a ∷ []) place ⌝ }
+{
+    let moves = [a];
+    if place < 1 { moves[place] } else { Move::End }
+}
+
+fn two(a: Move, b: Move, place: usize) -> Move
+    ensures { λ r. ⌜ r ≡ moveAt (a ∷ b ∷ []) place ⌝ }
+{
+    let moves = [a, b];
+    if place < 2 { moves[place] } else { Move::End }
+}
+
+fn three(a: Move, b: Move, c: Move, place: usize) -> Move
+    ensures { λ r. ⌜ r ≡ moveAt (a ∷ b ∷ c ∷ []) place ⌝ }
+{
+    let moves = [a, b, c];
+    if place < 3 { moves[place] } else { Move::End }
+}
+
+const INIT: [Move; 11] = [
+    // Reset and disable.
+    Move::Look(Register::CR),
+    Move::Modify(Change::Reset),
+    Move::Wait,
+    Move::Look(Register::CR),
+    Move::Modify(Change::Release),
+    // Reset FIFOs.
+    Move::Look(Register::CR),
+    Move::Modify(Change::ClearFifos),
+    // Configure master mode.
+    Move::Set(Change::Controller),
+    // Configure watermarks.
+    Move::Size(Direction::Tx),
+    Move::Set(Change::HalfFull),
+    Move::Set(Change::Enable(true)),
+];
+
+fn init(place: usize) -> Move
+    ensures { λ r. ⌜ r ≡ moveAt init place ⌝ }
+{
+    if place < INIT.len() {
+        INIT[place]
+    } else {
+        Move::End
+    }
+}
+
+// A modify while disabled.
+fn disabled_modify(change: Change, place: usize) -> Move
+    ensures { λ r. ⌜ r ≡ moveAt (disabled Wait (modify change)) place ⌝ }
+{
+    let moves = [
+        Move::Keep(Register::CR),
+        Move::Look(Register::CR),
+        Move::Modify(Change::Enable(false)),
+        Move::Wait,
+        Move::Look(change.register()),
+        Move::Modify(change),
+        Move::Look(Register::CR),
+        Move::Modify(Change::Restore),
+    ];
+    if place < 8 { moves[place] } else { Move::End }
+}
+
+// The clock while disabled.
+fn disabled_clock(clock: ClockConfigs, place: usize) -> Move
+    ensures { λ r. ⌜ r ≡ moveAt (movesOf (SetClockConfigs clock)) place ⌝ }
+{
+    let moves = [
+        Move::Keep(Register::CR),
+        Move::Look(Register::CR),
+        Move::Modify(Change::Enable(false)),
+        Move::WaitClock(clock),
+        Move::Write(Register::CCR, clock.as_raw()),
+        Move::Look(Register::CR),
+        Move::Modify(Change::Restore),
+    ];
+    if place < 7 { moves[place] } else { Move::End }
+}
+
+// A chip select's polarity while disabled: PCSPOL is read, then modified.
+fn disabled_polarity(pcs: Pcs, polarity: PcsPolarity, place: usize) -> Move
+    ensures { λ r. ⌜ r ≡ moveAt (movesOf (SetChipSelectPolarity pcs polarity)) place ⌝ }
+{
+    let moves = [
+        Move::Keep(Register::CR),
+        Move::Look(Register::CR),
+        Move::Modify(Change::Enable(false)),
+        Move::Wait,
+        Move::Keep(Register::CFGR1),
+        Move::Look(Register::CFGR1),
+        Move::Modify(Change::Polarity(pcs, polarity)),
+        Move::Look(Register::CR),
+        Move::Modify(Change::Restore),
+    ];
+    if place < 9 { moves[place] } else { Move::End }
+}
+
+impl Call {
+    // The move at a place of the call's table.
+    fn due(self, place: usize) -> Move
+        ensures { λ r. ⌜ r ≡ moveAt (movesOf self) place ⌝ }
+    {
+        match self {
+            Call::SoftReset => soft_reset(place),
+            Call::RecoverFromError => recover_from_error(place),
+            Call::Init => init(place),
+            Call::GetWatermark => one(Move::Look(Register::FCR), place),
+            Call::SetWatermark(d, w) => three(
+                Move::Size(d),
+                Move::Look(Register::FCR),
+                Move::Modify(Change::Watermark(d, w)),
+                place,
+            ),
+            Call::GetStatus => one(Move::Look(Register::SR), place),
+            Call::ClearStatus(flags) => one(Move::Write(Register::SR, flags.w1c()), place),
+            Call::IsEnabled => one(Move::Look(Register::CR), place),
+            Call::SetEnable(on) => two(
+                Move::Look(Register::CR),
+                Move::Modify(Change::Enable(on)),
+                place,
+            ),
+            Call::ClearFifo(d) => two(
+                Move::Look(Register::CR),
+                Move::Modify(Change::ClearFifo(d)),
+                place,
+            ),
+            Call::GetFifoStatus => two(
+                Move::Keep(Register::PARAM),
+                Move::Look(Register::FSR),
+                place,
+            ),
+            Call::ReadData => two(Move::Arrived, Move::Look(Register::RDR), place),
+            Call::EnqueueData(word) => one(Move::Write(Register::TDR, word), place),
+            Call::EnqueueTransaction(t) => one(Move::Write(Register::TCR, t.as_raw()), place),
+            Call::SetClockConfigs(c) => disabled_clock(c, place),
+            Call::SetSamplePoint(p) => disabled_modify(Change::Sample(p), place),
+            Call::SetPeripheralEnable(on) => disabled_modify(Change::Peripheral(on), place),
+            Call::SetChipSelectPolarity(pcs, p) => disabled_polarity(pcs, p, place),
+        }
+    }
+
+    // The access that is due.
+    pub fn next(self, sequence: Sequence) -> Access
+        ensures { λ r. ⌜ r ≡ callAccess self sequence ⌝ }
+    {
+        if sequence.refused() {
+            return Access::Done(Ending::FifoExponent);
+        }
+        sequence.access(self.due(sequence.place()))
+    }
+
+    // The sequence after that access, which answered `value`.
+    pub fn answered(self, sequence: Sequence, value: u32) -> Sequence
+        ensures { λ r. ⌜ r ≡ callAfter self sequence value ⌝ }
+    {
+        sequence.moved(self.due(sequence.place()), value)
+    }
+}
