@@ -6,11 +6,10 @@ use mathlib.Core.List.{List}
 use lib.Dec.{eqb}
 use Rattle.words.specs.Clock.{clocked}
 use Rattle.machine.specs.declared.access.Ending.the-variants.{ZeroClock}
-use Rattle.machine.specs.declared.call.Call.the-variants.{Init, SetClockConfigs}
+use Rattle.machine.specs.declared.call.Call.the-variants.{SetClockConfigs}
 use Rattle.machine.specs.declared.driver.Lpspi.{Lpspi}
 use Rattle.machine.specs.declared.sequence.Sequence.{Sequence}
 use Rattle.machine.specs.Access.{numberOf}
-use Rattle.machine.specs.Driver.{startDriver}
 use Rattle.runs.specs.declared.result.RunResult.{RunResult}
 use Rattle.runs.specs.Run.{Left, left, limits, refused}
 use Rattle.runs.specs.Call.{CallLeft, calledResult, callRun}
@@ -24,23 +23,20 @@ pub record Answered (A : Type 0) : Type 0 where
   pub run : Left
   pub value : A
 
-abbrev pub answered : {A : Type 0} → RunResult → A → List ℕ → Answered A
-answered r v log = record { run = left r log; value = v }
+abbrev pub valueLeft : {A : Type 0} → RunResult → A → List ℕ → Answered A
+valueLeft r v log = record { run = left r log; value = v }
 
 -- its value comes with Ok; refused or stopped it is `none`
 abbrev pub valued : {A : Type 0} → (Sequence → A) → A → CallLeft → Answered A
 valued value none c =
-    answered (calledResult (c .called)) (cond (eqb (numberOf (c .called .ending)) 0) (value (c .called .sequence)) none) (c .log)
-
--- `init`, once past number 5, always returns the starting driver value
-abbrev pub initRun : Lpspi → ℕ → List ℕ → List ℕ → Left
-initRun d budget script log = cond (limits budget log) (refused d log) (ranCall (callRun startDriver Init budget script log))
+    valueLeft (calledResult (c .called)) (cond (eqb (numberOf (c .called .ending)) 0) (value (c .called .sequence)) none) (c .log)
 
 -- clock entry, 6: source or wanted clock is 0; all as found
-abbrev pub zeroClock : Lpspi → List ℕ → Left
-zeroClock d log = left (record { ending = ZeroClock; accesses = 0; answers = 0; driver = d }) log
+abbrev pub clockRefused : Lpspi → List ℕ → Left
+clockRefused d log = left (record { ending = ZeroClock; accesses = 0; answers = 0; driver = d }) log
 
+-- number 5 comes before it
 abbrev pub setClockHzRun : Lpspi → ℕ → ℕ → ℕ → List ℕ → List ℕ → Left
 setClockHzRun d source clock budget script log =
     cond (limits budget log) (refused d log)
-    (cond (eqb (clocked source clock .number) 0) (ranCall (callRun d (SetClockConfigs (clocked source clock .configs)) budget script log)) (zeroClock d log))
+    (cond (eqb (clocked source clock .number) 0) (ranCall (callRun d (SetClockConfigs (clocked source clock .configs)) budget script log)) (clockRefused d log))

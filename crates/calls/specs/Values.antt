@@ -2,6 +2,7 @@
 -- Assumes nothing.
 use Prim.Native.Nat.{ℕ}
 use mathlib.Core.Bool.{Bool, cond}
+use mathlib.Core.List.{List, [], _∷_}
 use lib.Dec.{leb, eqb}
 use Rattle.manual.specs.declared.Cr.the-variants.{MEN}
 use Rattle.manual.specs.declared.Field.the-variants.{Cr, Fsr, Param, Rsr}
@@ -35,6 +36,7 @@ statusIn s = record { bits = statusOf (s .held) }
 abbrev pub enabledIn : Sequence → Bool
 enabledIn s = eqb (readField (Cr MEN) (s .held)) 1
 
+-- PARAM's fields, as the Rust takes them for capacities
 abbrev pub fifoStatus : ℕ → ℕ → FifoStatus
 fifoStatus param counts =
     record { rxcount = readField (Fsr RXCOUNT) counts; txcount = readField (Fsr TXCOUNT) counts; rxcap = depth (readField (Param RXFIFO) param); txcap = depth (readField (Param TXFIFO) param) }
@@ -42,9 +44,13 @@ fifoStatus param counts =
 abbrev pub fifoIn : Sequence → FifoStatus
 fifoIn s = fifoStatus (keptOf PARAM (s .kept)) (s .held)
 
--- a word only if RXEMPTY is 0
-abbrev pub dataIn : Sequence → Data
-dataIn s = cond (eqb (readField (Rsr RXEMPTY) (keptOf RSR (s .kept))) 0) (Word (s .held)) Empty
+-- the words of `read_data`: RDR's only if RXEMPTY is 0; otherwise no word
+abbrev pub dataIn : Sequence → List ℕ
+dataIn s = cond (eqb (readField (Rsr RXEMPTY) (keptOf RSR (s .kept))) 0) (s .held ∷ []) []
+
+abbrev pub wordsOf : Data → List ℕ
+wordsOf (Word w) = w ∷ []
+wordsOf Empty = []
 
 -- where there is no answer
 abbrev pub noStatus : Status

@@ -1,11 +1,11 @@
 // Words and commands.
 ghost use mathlib.Core.Path.{_≡_};
 ghost use Rattle.machine.specs.declared.call.Call.the-variants.{ReadData, EnqueueData, EnqueueTransaction};
-ghost use Rattle.calls.specs.declared.results.Data.the-variants.{Empty};
+ghost use mathlib.Core.List.{[]};
 ghost use Rattle.runs.specs.Run.{left};
 ghost use Rattle.runs.specs.Call.{callRun};
-ghost use Rattle.calls.specs.Calls.{ranCall, answered, valued};
-ghost use Rattle.calls.specs.Values.{dataIn};
+ghost use Rattle.calls.specs.Calls.{ranCall, valueLeft, valued};
+ghost use Rattle.calls.specs.Values.{dataIn, wordsOf};
 use crate::entry::is_ok;
 use crate::entry::result;
 use crate::results::Data;
@@ -21,7 +21,7 @@ use runs::result::RunResult;
 use words::transaction::Transaction;
 
 fn data(sequence: Sequence) -> Data
-    ensures { λ r. ⌜ r ≡ dataIn sequence ⌝ }
+    ensures { λ r. ⌜ wordsOf r ≡ dataIn sequence ⌝ }
 {
     if Field::Rsr(Rsr::RXEMPTY).read(sequence.kept(Register::RSR)) == 0 {
         return Data::Word(sequence.held());
@@ -31,7 +31,7 @@ fn data(sequence: Sequence) -> Data
 
 // A received word; none where the receive FIFO is empty.
 pub fn read_data(driver: Lpspi, budget: usize, script: &[u32], log: &mut [u32]) -> DataResult
-    ensures { λ r. ⌜ answered (r .result) (r .data) (now (log .exit)) ≡ valued dataIn Empty (callRun driver ReadData budget (now (script .entry)) (now (log .entry))) ⌝ }
+    ensures { λ r. ⌜ valueLeft (r .result) (wordsOf (r .data)) (now (log .exit)) ≡ valued dataIn [] (callRun driver ReadData budget (now (script .entry)) (now (log .entry))) ⌝ }
 {
     let called = run_call(driver, Call::ReadData, budget, script, log);
     if is_ok(called) {

@@ -1,6 +1,5 @@
 // What all calls share.
 ghost use mathlib.Core.Path.{_≡_};
-ghost use mathlib.Core.Bool.{Bool};
 ghost use lib.Dec.{eqb};
 ghost use Rattle.machine.specs.Access.{numberOf};
 ghost use Rattle.runs.specs.Call.{calledResult};

@@ -3,7 +3,7 @@ ghost use mathlib.Core.Path.{_≡_};
 ghost use Rattle.machine.specs.declared.call.Call.the-variants.{GetWatermark, SetWatermark, ClearFifo, GetFifoStatus};
 ghost use Rattle.runs.specs.Run.{left};
 ghost use Rattle.runs.specs.Call.{callRun};
-ghost use Rattle.calls.specs.Calls.{ranCall, answered, valued};
+ghost use Rattle.calls.specs.Calls.{ranCall, valueLeft, valued};
 ghost use Rattle.calls.specs.Values.{watermarkIn, levelIn, fifoStatus, fifoIn, noFifo};
 use crate::entry::is_ok;
 use crate::entry::result;
@@ -31,7 +31,7 @@ pub fn watermark(
     script: &[u32],
     log: &mut [u32],
 ) -> LevelResult
-    ensures { λ r. ⌜ answered (r .result) (r .level) (now (log .exit)) ≡ valued (watermarkIn direction) 0 (callRun driver GetWatermark budget (now (script .entry)) (now (log .entry))) ⌝ }
+    ensures { λ r. ⌜ valueLeft (r .result) (r .level) (now (log .exit)) ≡ valued (watermarkIn direction) 0 (callRun driver GetWatermark budget (now (script .entry)) (now (log .entry))) ⌝ }
 {
     let called = run_call(driver, Call::GetWatermark, budget, script, log);
     if is_ok(called) {
@@ -56,7 +56,7 @@ pub fn set_watermark(
     script: &[u32],
     log: &mut [u32],
 ) -> LevelResult
-    ensures { λ r. ⌜ answered (r .result) (r .level) (now (log .exit)) ≡ valued (levelIn direction watermark) 0 (callRun driver (SetWatermark direction watermark) budget (now (script .entry)) (now (log .entry))) ⌝ }
+    ensures { λ r. ⌜ valueLeft (r .result) (r .level) (now (log .exit)) ≡ valued (levelIn direction watermark) 0 (callRun driver (SetWatermark direction watermark) budget (now (script .entry)) (now (log .entry))) ⌝ }
 {
     let called = run_call(
         driver,
@@ -103,7 +103,7 @@ fn fifo(param: u32, counts: u32) -> FifoStatus
 
 // The counts and capacities of the FIFOs.
 pub fn fifo_status(driver: Lpspi, budget: usize, script: &[u32], log: &mut [u32]) -> FifoResult
-    ensures { λ r. ⌜ answered (r .result) (r .fifo) (now (log .exit)) ≡ valued fifoIn noFifo (callRun driver GetFifoStatus budget (now (script .entry)) (now (log .entry))) ⌝ }
+    ensures { λ r. ⌜ valueLeft (r .result) (r .fifo) (now (log .exit)) ≡ valued fifoIn noFifo (callRun driver GetFifoStatus budget (now (script .entry)) (now (log .entry))) ⌝ }
 {
     let called = run_call(driver, Call::GetFifoStatus, budget, script, log);
     if is_ok(called) {

@@ -1,16 +1,13 @@
 // Resets.
 ghost use mathlib.Core.Path.{_≡_};
-ghost use Rattle.machine.specs.declared.call.Call.the-variants.{SoftReset, RecoverFromError};
+ghost use Rattle.machine.specs.declared.call.Call.the-variants.{SoftReset, RecoverFromError, Init};
 ghost use Rattle.runs.specs.Run.{left};
 ghost use Rattle.runs.specs.Call.{callRun};
-ghost use Rattle.calls.specs.Calls.{ranCall, initRun};
+ghost use Rattle.calls.specs.Calls.{ranCall};
 use crate::entry::result;
-use crate::entry::unmoved;
-use machine::access::Ending;
 use machine::call::Call;
 use machine::driver::Lpspi;
 use runs::call::run_call;
-use runs::log::limits;
 use runs::result::RunResult;
 
 // Reset all internal logic while preserving the driver's configurations.
@@ -32,12 +29,9 @@ pub fn recover_from_error(
     result(run_call(driver, Call::RecoverFromError, budget, script, log))
 }
 
-// The peripheral from its reset to its enabled state. The driver value is the starting one.
+// The peripheral from its reset to its enabled state. With number 5 the driver value is the one given, past it the starting one.
 pub fn init(driver: Lpspi, budget: usize, script: &[u32], log: &mut [u32]) -> RunResult
-    ensures { λ r. ⌜ left r (now (log .exit)) ≡ initRun driver budget (now (script .entry)) (now (log .entry)) ⌝ }
+    ensures { λ r. ⌜ left r (now (log .exit)) ≡ ranCall (callRun driver Init budget (now (script .entry)) (now (log .entry))) ⌝ }
 {
-    if limits(budget, log) {
-        return unmoved(driver, Ending::Limits);
-    }
-    result(run_call(Lpspi::new(), Call::Init, budget, script, log))
+    result(run_call(driver, Call::Init, budget, script, log))
 }

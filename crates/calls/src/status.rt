@@ -4,7 +4,7 @@ ghost use mathlib.Core.Bool.{false};
 ghost use Rattle.machine.specs.declared.call.Call.the-variants.{GetStatus, ClearStatus, IsEnabled, SetEnable};
 ghost use Rattle.runs.specs.Run.{left};
 ghost use Rattle.runs.specs.Call.{callRun};
-ghost use Rattle.calls.specs.Calls.{ranCall, answered, valued};
+ghost use Rattle.calls.specs.Calls.{ranCall, valueLeft, valued};
 ghost use Rattle.calls.specs.Values.{statusIn, noStatus, enabledIn};
 use crate::entry::is_ok;
 use crate::entry::result;
@@ -20,7 +20,7 @@ use runs::result::RunResult;
 
 // The status flags.
 pub fn status(driver: Lpspi, budget: usize, script: &[u32], log: &mut [u32]) -> StatusResult
-    ensures { λ r. ⌜ answered (r .result) (r .status) (now (log .exit)) ≡ valued statusIn noStatus (callRun driver GetStatus budget (now (script .entry)) (now (log .entry))) ⌝ }
+    ensures { λ r. ⌜ valueLeft (r .result) (r .status) (now (log .exit)) ≡ valued statusIn noStatus (callRun driver GetStatus budget (now (script .entry)) (now (log .entry))) ⌝ }
 {
     let called = run_call(driver, Call::GetStatus, budget, script, log);
     if is_ok(called) {
@@ -51,7 +51,7 @@ pub fn clear_status(
 
 // The peripheral is enabled.
 pub fn is_enabled(driver: Lpspi, budget: usize, script: &[u32], log: &mut [u32]) -> EnabledResult
-    ensures { λ r. ⌜ answered (r .result) (r .enabled) (now (log .exit)) ≡ valued enabledIn false (callRun driver IsEnabled budget (now (script .entry)) (now (log .entry))) ⌝ }
+    ensures { λ r. ⌜ valueLeft (r .result) (r .enabled) (now (log .exit)) ≡ valued enabledIn false (callRun driver IsEnabled budget (now (script .entry)) (now (log .entry))) ⌝ }
 {
     let called = run_call(driver, Call::IsEnabled, budget, script, log);
     if is_ok(called) {

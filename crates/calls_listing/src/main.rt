@@ -1,5 +1,5 @@
-// Runs of the calls beside the transfers, over scripts. Printed of each: its accesses, its value, then result, accesses made, answers used and
-// the DBT and SCKDIV of the driver's cache.
+// Runs of the calls beside the transfers, over scripts. For each it prints the accesses, the call's value, then result, accesses made, answers
+// used, and DBT and SCKDIV of the driver's cache.
 use calls::data::enqueue_data;
 use calls::data::enqueue_transaction;
 use calls::data::read_data;
@@ -225,6 +225,29 @@ fn clear(flags: u32, budget: usize) {
     show(
         clear_status(Lpspi::new(), flags, budget, &script, &mut log),
         &log,
+    );
+}
+
+fn flag(name: &[u8], flags: Status) {
+    text(name);
+    eight_digits(flags.bits());
+    text(b"\n");
+}
+
+fn show_named_flags() {
+    text(b"the flags\n");
+    flag(b"BUSY ", Status::BUSY);
+    flag(b"DATA_MATCH ", Status::DATA_MATCH);
+    flag(b"RECEIVE_ERROR ", Status::RECEIVE_ERROR);
+    flag(b"TRANSMIT_ERROR ", Status::TRANSMIT_ERROR);
+    flag(b"TRANSFER_COMPLETE ", Status::TRANSFER_COMPLETE);
+    flag(b"FRAME_COMPLETE ", Status::FRAME_COMPLETE);
+    flag(b"WORD_COMPLETE ", Status::WORD_COMPLETE);
+    flag(b"RECEIVE_DATA ", Status::RECEIVE_DATA);
+    flag(b"TRANSMIT_DATA ", Status::TRANSMIT_DATA);
+    flag(
+        b"both errors ",
+        Status::TRANSMIT_ERROR.union(Status::RECEIVE_ERROR),
     );
 }
 
@@ -750,6 +773,7 @@ fn show_rest_of_log() {
 }
 
 fn main() {
+    show_named_flags();
     show_status();
     show_enables();
     show_watermarks();

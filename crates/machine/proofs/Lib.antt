@@ -1,1 +1,3 @@
 mod Lists
+pub mod ChangeLaws
+pub mod CallLaws

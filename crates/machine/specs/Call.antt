@@ -1,49 +1,32 @@
 -- The other calls of the module, each the table of its moves, in the Rust's order.
 -- Assumes nothing.
 use Prim.Native.Nat.{ℕ}
-use mathlib.Core.Bool.{Bool, true, false, cond}
+use mathlib.Core.Bool.{true, false, cond}
 use mathlib.Core.List.{List, [], _∷_, _++_}
-use lib.ListN.{getD}
 use Rattle.manual.specs.declared.Register.the-variants.{PARAM, CR, SR, CFGR1, CCR, FCR, FSR, TCR, TDR, RDR}
-use Rattle.words.specs.declared.clock.ClockConfigs.{ClockConfigs}
 use Rattle.words.specs.declared.transaction.Direction.the-variants.{Tx}
 use Rattle.words.specs.Clock.{clockWord}
 use Rattle.machine.specs.declared.access.Access.{Access}
 use Rattle.machine.specs.declared.access.Access.the-variants.{Done}
 use Rattle.machine.specs.declared.access.Ending.the-variants.{FifoExponent}
+use Rattle.machine.specs.declared.driver.Lpspi.{Lpspi}
 use Rattle.machine.specs.declared.call.Call.{Call}
 use Rattle.machine.specs.declared.call.Call.the-variants.{SoftReset, RecoverFromError, Init, GetWatermark, SetWatermark, GetStatus, ClearStatus, IsEnabled, SetEnable, ClearFifo, GetFifoStatus, ReadData, EnqueueData, EnqueueTransaction, SetClockConfigs, SetSamplePoint, SetPeripheralEnable, SetChipSelectPolarity}
-use Rattle.machine.specs.declared.sequence.Change.{Change}
-use Rattle.machine.specs.declared.sequence.Change.the-variants.{Reset, Release, ClearFifos, ClearFifo as ClearOne, Enable, Restore, Controller, HalfFull, Watermark, Sample, Peripheral, Polarity}
+use Rattle.machine.specs.declared.sequence.Change.the-variants.{ClearFifo as ClearOne, Enable, Restore, Controller, HalfFull, Watermark, Sample, Peripheral, Polarity}
 use Rattle.machine.specs.declared.sequence.Move.{Move}
-use Rattle.machine.specs.declared.sequence.Move.the-variants.{Keep, Look, Wait, WaitClock, Size, Arrived, Modify, Set, Write, End}
+use Rattle.machine.specs.declared.sequence.Move.the-variants.{Keep, Look, Wait, WaitClock, Size, Arrived, Set, Write}
 use Rattle.machine.specs.declared.sequence.Sequence.{Sequence}
-use Rattle.machine.specs.Sequence.{changeRegister, moveAccess, moved}
-use Rattle.machine.specs.Recovery.{softReset, clearStatus, recovery}
+use Rattle.machine.specs.Driver.{startDriver}
+use Rattle.machine.specs.Sequence.{sequenceStart, moveAccess, moved, modify, moveAt}
+use Rattle.machine.specs.Recovery.{resetMoves, softReset, clearStatus, recovery}
 
--- a read, then a write with only the named fields changed
-abbrev pub modify : Change → List Move
-modify c = Look (changeRegister c) ∷ Modify c ∷ []
-
--- reset and disabled; FIFOs cleared; controller; watermarks by the transmit FIFO's size; enabled
+-- the reset; controller; watermarks by the transmit FIFO's size; enabled
 abbrev pub init : List Move
-init =
-    Look CR
-    ∷ Modify Reset
-    ∷ Wait
-    ∷ Look CR
-    ∷ Modify Release
-    ∷ Look CR
-    ∷ Modify ClearFifos
-    ∷ Set Controller
-    ∷ Size Tx
-    ∷ Set HalfFull
-    ∷ Set (Enable true)
-    ∷ []
+init = resetMoves ++ Set Controller ∷ Size Tx ∷ Set HalfFull ∷ Set (Enable true) ∷ []
 
--- a disabled operation: entry (MEN kept and set to 0, then the wait), operation, restore of MEN
+-- each disabled operation is one run: entry (MEN kept and set to 0, then the wait until it is), operation, restore of MEN
 abbrev pub disabled : Move → List Move → List Move
-disabled wait operation = Keep CR ∷ Look CR ∷ Modify (Enable false) ∷ wait ∷ operation ++ modify Restore
+disabled wait operation = Keep CR ∷ modify (Enable false) ++ wait ∷ operation ++ modify Restore
 
 abbrev pub movesOf : Call → List Move
 movesOf SoftReset = softReset
@@ -67,12 +50,33 @@ movesOf (SetChipSelectPolarity pcs p) = disabled Wait (Keep CFGR1 ∷ modify (Po
 
 -- THE MACHINE OF A CALL
 
-abbrev pub moveAt : List Move → ℕ → Move
-moveAt moves place = getD moves place End
+-- `init`, once past number 5, always returns the starting driver value
+abbrev pub callDriver : Call → Lpspi → Lpspi
+callDriver SoftReset d = d
+callDriver RecoverFromError d = d
+callDriver Init d = startDriver
+callDriver GetWatermark d = d
+callDriver (SetWatermark dir watermark) d = d
+callDriver GetStatus d = d
+callDriver (ClearStatus flags) d = d
+callDriver IsEnabled d = d
+callDriver (SetEnable on) d = d
+callDriver (ClearFifo dir) d = d
+callDriver GetFifoStatus d = d
+callDriver ReadData d = d
+callDriver (EnqueueData word) d = d
+callDriver (EnqueueTransaction t) d = d
+callDriver (SetClockConfigs c) d = d
+callDriver (SetSamplePoint p) d = d
+callDriver (SetPeripheralEnable on) d = d
+callDriver (SetChipSelectPolarity pcs p) d = d
+
+abbrev pub callStart : Call → Lpspi → Sequence
+callStart c d = sequenceStart (callDriver c d)
 
 -- 7 right after PARAM was read; else the move that is due
 unfoldable pub callAccess : Call → Sequence → Access
-callAccess c s = cond (s .refused) (Done FifoExponent) (moveAccess (moveAt (movesOf c) (s .place)) s)
+callAccess c s = cond (s .oversize) (Done FifoExponent) (moveAccess (moveAt (movesOf c) (s .place)) s)
 
 unfoldable pub callAfter : Call → Sequence → ℕ → Sequence
 callAfter c s v = moved (moveAt (movesOf c) (s .place)) s v

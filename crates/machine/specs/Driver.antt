@@ -10,7 +10,6 @@ use Rattle.words.specs.declared.mode.Pcs.the-variants.{Pcs0}
 use Rattle.words.specs.declared.mode.Phase.the-variants.{CaptureOnFirstTransition}
 use Rattle.words.specs.declared.mode.Polarity.the-variants.{IdleLow}
 use Rattle.words.specs.Command.{busWord}
-use Rattle.machine.specs.declared.driver.CcrCache.{CcrCache}
 use Rattle.machine.specs.declared.driver.Lpspi.{Lpspi}
 
 -- the starting driver value: MSB, MODE_0 (CPOL and CPHA 0), PCS 0, cache 0

@@ -9,12 +9,16 @@ use Rattle.manual.specs.declared.Register.the-variants.{CR, SR, IER, DER, CFGR0
 use Rattle.machine.specs.declared.access.Access.{Access}
 use Rattle.machine.specs.declared.sequence.Change.the-variants.{Reset, Release, ClearFifos, Restore}
 use Rattle.machine.specs.declared.sequence.Move.{Move}
-use Rattle.machine.specs.declared.sequence.Move.the-variants.{Keep, KeepClock, Look, Wait, Modify, Write, Put}
+use Rattle.machine.specs.declared.sequence.Move.the-variants.{Keep, KeepClock, Wait, Write, Put}
 use Rattle.machine.specs.declared.sequence.Sequence.{Sequence}
-use Rattle.machine.specs.Sequence.{moveAccess, moved}
+use Rattle.machine.specs.Sequence.{moveAccess, moved, modify}
 use Rattle.machine.specs.Status.{cleared, errors}
 
--- registers and enabled state kept; reset and disabled; FIFOs cleared; settings and enabled state restored
+-- reset and disabled, then released; the FIFOs cleared
+abbrev pub resetMoves : List Move
+resetMoves = modify Reset ++ Wait ∷ modify Release ++ modify ClearFifos
+
+-- registers and enabled state kept; the reset; registers and enabled state restored
 abbrev pub softReset : List Move
 softReset =
     Keep IER
@@ -26,14 +30,8 @@ softReset =
     ∷ KeepClock
     ∷ Keep FCR
     ∷ Keep CR
-    ∷ Look CR
-    ∷ Modify Reset
-    ∷ Wait
-    ∷ Look CR
-    ∷ Modify Release
-    ∷ Look CR
-    ∷ Modify ClearFifos
-    ∷ Put IER
+    ∷ resetMoves
+    ++ Put IER
     ∷ Put DER
     ∷ Put CFGR0
     ∷ Put CFGR1
@@ -41,10 +39,9 @@ softReset =
     ∷ Put DMR1
     ∷ Put CCR
     ∷ Put FCR
-    ∷ Look CR
-    ∷ Modify Restore
-    ∷ []
+    ∷ modify Restore
 
+-- `clear_status` writes its flags masked by 3F00
 abbrev pub clearStatus : ℕ → List Move
 clearStatus flags = Write SR (cleared flags) ∷ []
 
@@ -54,7 +51,7 @@ recovery = softReset ++ clearStatus errors
 
 -- INSIDE A TRANSFER
 
--- past its end the last move stands
+-- past its end the last move stands, so that a recovery always has an access due; it has ended before (`recovered`)
 abbrev pub recoveryMove : ℕ → Move
 recoveryMove place = getD recovery place (Write SR (cleared errors))
 

@@ -1,9 +1,9 @@
--- A call as a sequence of moves, each one register access, and what a move does. `modify_reg!` is Look, then Modify; `write_reg!` of fields is
--- Set, of a word Write.
+-- A call as a sequence of moves, each one register access, and what a move does. `modify_reg!` is `modify`: a read (Look), then a write with
+-- only the named fields changed (Modify). `write_reg!` of fields is Set, of a word Write.
 -- Assumes nothing.
 use Prim.Native.Nat.{ℕ, _+_, _-_, _/_, _^_, min}
-use mathlib.Core.Bool.{Bool, true, false, cond, not}
-use mathlib.Core.List.{List}
+use mathlib.Core.Bool.{true, false, cond, not}
+use mathlib.Core.List.{List, [], _∷_}
 use lib.Dec.{ltb, eqb}
 use lib.ListN.{getD, set, replicate}
 use Rattle.manual.specs.declared.Ccr.the-variants.{DBT, SCKDIV}
@@ -17,8 +17,7 @@ use Rattle.manual.specs.declared.Field.the-variants.{Cr, Cfgr1, Ccr, Fcr, Param
 use Rattle.manual.specs.declared.Register.{Register}
 use Rattle.manual.specs.declared.Register.the-variants.{PARAM, CR, SR, IER, DER, CFGR0, CFGR1, DMR0, DMR1, CCR, FCR, FSR, TCR, TDR, RSR, RDR}
 use Rattle.manual.specs.Bits.{setBits}
-use Rattle.manual.specs.Manual.{readField, setField, registerOf}
-use Rattle.words.specs.declared.clock.ClockConfigs.{ClockConfigs}
+use Rattle.manual.specs.Manual.{readField, setField, Setting, setAll}
 use Rattle.words.specs.declared.mode.Pcs.{Pcs}
 use Rattle.words.specs.declared.transaction.Direction.{Direction}
 use Rattle.words.specs.declared.transaction.Direction.the-variants.{Tx, Rx}
@@ -63,26 +62,26 @@ keptOf r kept = getD kept (slotOf r) 0
 
 -- at the start nothing is kept or held
 abbrev pub sequenceStart : Lpspi → Sequence
-sequenceStart d = record { place = 0; held = 0; kept = replicate 16 0; refused = false; driver = d }
+sequenceStart d = record { place = 0; held = 0; kept = replicate 16 0; oversize = false; driver = d }
 
--- one move on; no table has more than 27 moves
+-- one move on; no table has more than 27 moves (`CallLaws.table-fits`)
 abbrev pub further : ℕ → ℕ
 further place = cond (ltb place 27) (place + 1) place
 
 abbrev pub onward : Sequence → Sequence
-onward s = record { place = further (s .place); held = s .held; kept = s .kept; refused = s .refused; driver = s .driver }
+onward s = record { place = further (s .place); held = s .held; kept = s .kept; oversize = s .oversize; driver = s .driver }
 
 abbrev pub holding : ℕ → Sequence → Sequence
-holding v s = record { place = s .place; held = v; kept = s .kept; refused = s .refused; driver = s .driver }
+holding v s = record { place = s .place; held = v; kept = s .kept; oversize = s .oversize; driver = s .driver }
 
 abbrev pub keeping : Register → ℕ → Sequence → Sequence
-keeping r v s = record { place = s .place; held = s .held; kept = set (s .kept) (slotOf r) v; refused = s .refused; driver = s .driver }
+keeping r v s = record { place = s .place; held = s .held; kept = set (s .kept) (slotOf r) v; oversize = s .oversize; driver = s .driver }
 
-abbrev pub refusing : Sequence → Sequence
-refusing s = record { place = s .place; held = s .held; kept = s .kept; refused = true; driver = s .driver }
+abbrev pub oversized : Sequence → Sequence
+oversized s = record { place = s .place; held = s .held; kept = s .kept; oversize = true; driver = s .driver }
 
 abbrev pub driving : Lpspi → Sequence → Sequence
-driving d s = record { place = s .place; held = s .held; kept = s .kept; refused = s .refused; driver = d }
+driving d s = record { place = s .place; held = s .held; kept = s .kept; oversize = s .oversize; driver = d }
 
 -- FIELDS
 
@@ -115,6 +114,8 @@ polarized pcs p pcspol = setBits (pcsOf pcs) 1 (pcspolOf p) pcspol
 abbrev pub cachedIn : CcrCache → ℕ → ℕ
 cachedIn c ccr = setField (Ccr DBT) (c .dbt) (setField (Ccr SCKDIV) (c .sckdiv) ccr)
 
+-- WHAT IS CHANGED
+
 abbrev pub changeRegister : Change → Register
 changeRegister Reset = CR
 changeRegister Release = CR
@@ -129,20 +130,24 @@ changeRegister (Sample p) = CFGR1
 changeRegister (Peripheral on) = CFGR1
 changeRegister (Polarity pcs p) = CFGR1
 
--- a register's word with the named fields changed, where these registers were kept
+-- the named fields and their values, where these registers were kept
+abbrev pub settingsOf : Change → List ℕ → List Setting
+settingsOf Reset kept = (Cr RST, 1) ∷ (Cr MEN, 0) ∷ []
+settingsOf Release kept = (Cr RST, 0) ∷ []
+settingsOf ClearFifos kept = (Cr RRF, 1) ∷ (Cr RTF, 1) ∷ []
+settingsOf (ClearFifo d) kept = (fifoReset d, 1) ∷ []
+settingsOf (Enable on) kept = (Cr MEN, flagOf on) ∷ []
+settingsOf Restore kept = (Cr MEN, readField (Cr MEN) (keptOf CR kept)) ∷ []
+settingsOf Controller kept = (Cfgr1 SAMPLE, 1) ∷ (Cfgr1 MASTER, 1) ∷ []
+settingsOf HalfFull kept = (Fcr TXWATER, sizeOf (exponentOf Tx (keptOf PARAM kept)) / 2) ∷ (Fcr RXWATER, 0) ∷ []
+settingsOf (Watermark d watermark) kept = (waterOf d, levelOf d watermark (keptOf PARAM kept)) ∷ []
+settingsOf (Sample p) kept = (Cfgr1 SAMPLE, sampleOf p) ∷ []
+settingsOf (Peripheral on) kept = (Cfgr1 MASTER, flagOf (not on)) ∷ []
+settingsOf (Polarity pcs p) kept = (Cfgr1 PCSPOL, polarized pcs p (readField (Cfgr1 PCSPOL) (keptOf CFGR1 kept))) ∷ []
+
+-- a register's word with only these fields changed, each value masked to its field
 abbrev pub changed : Change → List ℕ → ℕ → ℕ
-changed Reset kept w = setField (Cr RST) 1 (setField (Cr MEN) 0 w)
-changed Release kept w = setField (Cr RST) 0 w
-changed ClearFifos kept w = setField (Cr RRF) 1 (setField (Cr RTF) 1 w)
-changed (ClearFifo d) kept w = setField (fifoReset d) 1 w
-changed (Enable on) kept w = setField (Cr MEN) (flagOf on) w
-changed Restore kept w = setField (Cr MEN) (readField (Cr MEN) (keptOf CR kept)) w
-changed Controller kept w = setField (Cfgr1 SAMPLE) 1 (setField (Cfgr1 MASTER) 1 w)
-changed HalfFull kept w = setField (Fcr TXWATER) (sizeOf (exponentOf Tx (keptOf PARAM kept)) / 2) (setField (Fcr RXWATER) 0 w)
-changed (Watermark d watermark) kept w = setField (waterOf d) (levelOf d watermark (keptOf PARAM kept)) w
-changed (Sample p) kept w = setField (Cfgr1 SAMPLE) (sampleOf p) w
-changed (Peripheral on) kept w = setField (Cfgr1 MASTER) (flagOf (not on)) w
-changed (Polarity pcs p) kept w = setField (Cfgr1 PCSPOL) (polarized pcs p (readField (Cfgr1 PCSPOL) (keptOf CFGR1 kept))) w
+changed c kept w = setAll (settingsOf c kept) w
 
 -- THE MOVES
 
@@ -161,17 +166,31 @@ moveAccess (Write r w) s = WriteWord r w
 moveAccess (Put r) s = WriteWord r (keptOf r (s .kept))
 moveAccess End s = Done Ok
 
--- the sequence after a move that was answered v
+-- The sequence after a move that was answered v.
+-- KeepClock: `soft_reset` writes DBT and SCKDIV from the driver's cache.
+-- WaitClock: the cache takes the new DBT and SCKDIV once MEN has read 0, before the check for the CCR write.
+-- Size: 7 right after PARAM, where the direction's exponent is over 4.
+-- Arrived: RDR only if RXEMPTY is 0; otherwise the read of RDR is passed over.
 abbrev pub moved : Move → Sequence → ℕ → Sequence
 moved (Keep r) s v = onward (keeping r v s)
 moved KeepClock s v = onward (keeping CCR (cachedIn (s .driver .cache) v) s)
 moved (Look r) s v = onward (holding v s)
 moved Wait s v = cond (eqb (readField (Cr MEN) v) 1) s (onward s)
 moved (WaitClock c) s v = cond (eqb (readField (Cr MEN) v) 1) s (onward (driving (withClock c (s .driver)) s))
-moved (Size d) s v = cond (ltb 4 (exponentOf d v)) (refusing s) (onward (keeping PARAM v s))
+moved (Size d) s v = cond (ltb 4 (exponentOf d v)) (oversized s) (onward (keeping PARAM v s))
 moved Arrived s v = cond (eqb (readField (Rsr RXEMPTY) v) 0) (onward (keeping RSR v s)) (onward (onward (keeping RSR v s)))
 moved (Modify c) s v = onward s
 moved (Set c) s v = onward s
 moved (Write r w) s v = onward s
 moved (Put r) s v = onward s
 moved End s v = s
+
+-- TABLES
+
+-- `modify_reg!`
+abbrev pub modify : Change → List Move
+modify c = Look (changeRegister c) ∷ Modify c ∷ []
+
+-- the move at a place; past the table, End
+abbrev pub moveAt : List Move → ℕ → Move
+moveAt moves place = getD moves place End

@@ -2,7 +2,7 @@
 -- Assumes nothing.
 use Prim.Native.Nat.{ℕ}
 use mathlib.Core.List.{List, [], _∷_}
-use lib.Bits.{bitAnd, bitOr}
+use lib.Bits.{bitAnd}
 use Rattle.manual.specs.declared.Field.the-variants.{Sr as SrField}
 use Rattle.manual.specs.declared.Sr.{Sr}
 use Rattle.manual.specs.declared.Sr.the-variants.{TDF, RDF, WCF, FCF, TCF, TEF, REF, DMF, MBF}
@@ -13,6 +13,7 @@ abbrev pub flagged : List Sr → ℕ
 flagged [] = 0
 flagged (f ∷ fs) = setField (SrField f) 1 (flagged fs)
 
+-- the flags that have a name
 abbrev pub named : List Sr
 named = MBF ∷ DMF ∷ REF ∷ TEF ∷ TCF ∷ FCF ∷ WCF ∷ RDF ∷ TDF ∷ []
 

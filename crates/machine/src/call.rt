@@ -3,11 +3,13 @@ ghost use mathlib.Core.Path.{_≡_};
 ghost use mathlib.Core.List.{[], _∷_};
 ghost use Rattle.machine.specs.declared.call.Call.the-variants.{SetClockConfigs, SetChipSelectPolarity};
 ghost use Rattle.machine.specs.declared.sequence.Move.the-variants.{Wait};
-ghost use Rattle.machine.specs.Call.{modify, init, disabled, movesOf, moveAt, callAccess, callAfter};
+ghost use Rattle.machine.specs.Sequence.{modify, moveAt};
+ghost use Rattle.machine.specs.Call.{init, disabled, movesOf, callDriver, callStart, callAccess, callAfter};
 use crate::access::Access;
 use crate::access::Ending;
-use crate::recovery::recover_from_error;
-use crate::recovery::soft_reset;
+use crate::driver::Lpspi;
+use crate::recovery::recover_move;
+use crate::recovery::soft_reset_move;
 use crate::sequence::Change;
 use crate::sequence::Move;
 use crate::sequence::Sequence;
@@ -47,21 +49,33 @@ fn one(a: Move, place: usize) -> Move
     ensures { λ r. ⌜ r ≡ moveAt (a ∷ []) place ⌝ }
 {
     let moves = [a];
-    if place < 1 { moves[place] } else { Move::End }
+    if place < moves.len() {
+        moves[place]
+    } else {
+        Move::End
+    }
 }
 
 fn two(a: Move, b: Move, place: usize) -> Move
     ensures { λ r. ⌜ r ≡ moveAt (a ∷ b ∷ []) place ⌝ }
 {
     let moves = [a, b];
-    if place < 2 { moves[place] } else { Move::End }
+    if place < moves.len() {
+        moves[place]
+    } else {
+        Move::End
+    }
 }
 
 fn three(a: Move, b: Move, c: Move, place: usize) -> Move
     ensures { λ r. ⌜ r ≡ moveAt (a ∷ b ∷ c ∷ []) place ⌝ }
 {
     let moves = [a, b, c];
-    if place < 3 { moves[place] } else { Move::End }
+    if place < moves.len() {
+        moves[place]
+    } else {
+        Move::End
+    }
 }
 
 const INIT: [Move; 11] = [
@@ -82,7 +96,7 @@ const INIT: [Move; 11] = [
     Move::Set(Change::Enable(true)),
 ];
 
-fn init(place: usize) -> Move
+fn init_move(place: usize) -> Move
     ensures { λ r. ⌜ r ≡ moveAt init place ⌝ }
 {
     if place < INIT.len() {
@@ -106,7 +120,11 @@ fn disabled_modify(change: Change, place: usize) -> Move
         Move::Look(Register::CR),
         Move::Modify(Change::Restore),
     ];
-    if place < 8 { moves[place] } else { Move::End }
+    if place < moves.len() {
+        moves[place]
+    } else {
+        Move::End
+    }
 }
 
 // The clock while disabled.
@@ -122,7 +140,11 @@ fn disabled_clock(clock: ClockConfigs, place: usize) -> Move
         Move::Look(Register::CR),
         Move::Modify(Change::Restore),
     ];
-    if place < 7 { moves[place] } else { Move::End }
+    if place < moves.len() {
+        moves[place]
+    } else {
+        Move::End
+    }
 }
 
 // A chip select's polarity while disabled: PCSPOL is read, then modified.
@@ -140,7 +162,11 @@ fn disabled_polarity(pcs: Pcs, polarity: PcsPolarity, place: usize) -> Move
         Move::Look(Register::CR),
         Move::Modify(Change::Restore),
     ];
-    if place < 9 { moves[place] } else { Move::End }
+    if place < moves.len() {
+        moves[place]
+    } else {
+        Move::End
+    }
 }
 
 impl Call {
@@ -149,9 +175,9 @@ impl Call {
         ensures { λ r. ⌜ r ≡ moveAt (movesOf self) place ⌝ }
     {
         match self {
-            Call::SoftReset => soft_reset(place),
-            Call::RecoverFromError => recover_from_error(place),
-            Call::Init => init(place),
+            Call::SoftReset => soft_reset_move(place),
+            Call::RecoverFromError => recover_move(place),
+            Call::Init => init_move(place),
             Call::GetWatermark => one(Move::Look(Register::FCR), place),
             Call::SetWatermark(d, w) => three(
                 Move::Size(d),
@@ -187,11 +213,43 @@ impl Call {
         }
     }
 
+    fn driver(self, driver: Lpspi) -> Lpspi
+        ensures { λ r. ⌜ r ≡ callDriver self driver ⌝ }
+    {
+        match self {
+            Call::Init => Lpspi::new(),
+            Call::SoftReset => driver,
+            Call::RecoverFromError => driver,
+            Call::GetWatermark => driver,
+            Call::SetWatermark(_, _) => driver,
+            Call::GetStatus => driver,
+            Call::ClearStatus(_) => driver,
+            Call::IsEnabled => driver,
+            Call::SetEnable(_) => driver,
+            Call::ClearFifo(_) => driver,
+            Call::GetFifoStatus => driver,
+            Call::ReadData => driver,
+            Call::EnqueueData(_) => driver,
+            Call::EnqueueTransaction(_) => driver,
+            Call::SetClockConfigs(_) => driver,
+            Call::SetSamplePoint(_) => driver,
+            Call::SetPeripheralEnable(_) => driver,
+            Call::SetChipSelectPolarity(_, _) => driver,
+        }
+    }
+
+    // The sequence at its start: `init` has a driver value of its own.
+    pub fn start(self, driver: Lpspi) -> Sequence
+        ensures { λ r. ⌜ r ≡ callStart self driver ⌝ }
+    {
+        Sequence::start(self.driver(driver))
+    }
+
     // The access that is due.
     pub fn next(self, sequence: Sequence) -> Access
         ensures { λ r. ⌜ r ≡ callAccess self sequence ⌝ }
     {
-        if sequence.refused() {
+        if sequence.oversize() {
             return Access::Done(Ending::FifoExponent);
         }
         sequence.access(self.due(sequence.place()))
@@ -201,6 +259,6 @@ impl Call {
     pub fn answered(self, sequence: Sequence, value: u32) -> Sequence
         ensures { λ r. ⌜ r ≡ callAfter self sequence value ⌝ }
     {
-        sequence.moved(self.due(sequence.place()), value)
+        sequence.after(self.due(sequence.place()), value)
     }
 }

@@ -1,12 +1,14 @@
 // `soft_reset` and `recover_from_error`.
 ghost use mathlib.Core.Path.{_≡_};
-ghost use Rattle.machine.specs.Call.{moveAt};
+ghost use Rattle.machine.specs.Sequence.{moveAt};
 ghost use Rattle.machine.specs.Recovery.{softReset, recovery, recoveryMove, recovered};
 use crate::sequence::Change;
 use crate::sequence::Move;
 use crate::sequence::Sequence;
-use crate::status::Status;
 use manual::Register;
+
+// The transmit and the receive error.
+const ERRORS: u32 = 0x1800;
 
 const RECOVERY: [Move; 27] = [
     // Backup registers, and the enabled state.
@@ -40,13 +42,13 @@ const RECOVERY: [Move; 27] = [
     Move::Look(Register::CR),
     Move::Modify(Change::Restore),
     // Clear the errors.
-    Move::Write(Register::SR, 0x1800),
+    Move::Write(Register::SR, ERRORS),
 ];
 
 // The moves of `soft_reset`: all but the last.
 const SOFT_RESET: usize = 26;
 
-pub(crate) fn soft_reset(place: usize) -> Move
+pub(crate) fn soft_reset_move(place: usize) -> Move
     ensures { λ r. ⌜ r ≡ moveAt softReset place ⌝ }
 {
     if place < SOFT_RESET {
@@ -56,7 +58,7 @@ pub(crate) fn soft_reset(place: usize) -> Move
     }
 }
 
-pub(crate) fn recover_from_error(place: usize) -> Move
+pub(crate) fn recover_move(place: usize) -> Move
     ensures { λ r. ⌜ r ≡ moveAt recovery place ⌝ }
 {
     if place < RECOVERY.len() {
@@ -73,11 +75,11 @@ pub(crate) fn recovery_move(place: usize) -> Move
     if place < RECOVERY.len() {
         RECOVERY[place]
     } else {
-        Move::Write(Register::SR, 0x1800)
+        Move::Write(Register::SR, ERRORS)
     }
 }
 
-pub(crate) fn recovered(sequence: Sequence) -> bool
+pub(crate) fn is_recovered(sequence: Sequence) -> bool
     ensures { λ r. ⌜ r ≡ recovered sequence ⌝ }
 {
     RECOVERY.len() <= sequence.place()

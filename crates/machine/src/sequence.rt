@@ -7,7 +7,7 @@ ghost use Rattle.manual.specs.declared.Field.the-variants.{Cr as CrField};
 ghost use Rattle.manual.specs.Manual.{readField};
 ghost use Rattle.manual.specs.Bits.{setBits};
 ghost use Rattle.words.specs.Command.{flagOf, pcsOf};
-ghost use Rattle.machine.specs.Sequence.{slotOf, keptOf, sequenceStart, further, onward, holding, keeping, refusing, driving, exponentOf, sizeOf, levelOf, waterOf, fifoReset, polarized, cachedIn, changeRegister, changed, moveAccess, moved};
+ghost use Rattle.machine.specs.Sequence.{slotOf, keptOf, sequenceStart, onward, holding, keeping, oversized, driving, exponentOf, sizeOf, levelOf, waterOf, fifoReset, polarized, cachedIn, changeRegister, changed, moveAccess, moved};
 use crate::access::Access;
 use crate::access::Ending;
 use crate::driver::CcrCache;
@@ -87,9 +87,12 @@ pub struct Sequence {
     // The registers that were kept.
     kept: [u32; 16],
     // PARAM had an exponent over 4.
-    refused: bool,
+    oversize: bool,
     driver: Lpspi,
 }
+
+// The moves of the longest table.
+const LONGEST: usize = 27;
 
 fn slot(register: Register) -> usize
     ensures { λ r. ⌜ (r ≡ slotOf register) × (r < 16) ⌝ }
@@ -191,13 +194,13 @@ fn set_bit(position: u32, bit: u32, word: u32) -> u32
     (((high << 1) | field) << position) | low
 }
 
-fn polarized(pcs: Pcs, polarity: PcsPolarity, pcspol: u32) -> u32
+fn with_polarity(pcs: Pcs, polarity: PcsPolarity, pcspol: u32) -> u32
     ensures { λ r. ⌜ r ≡ polarized pcs polarity pcspol ⌝ }
 {
     set_bit(pcs_number(pcs), polarity.pcspol(), pcspol)
 }
 
-fn cached(cache: CcrCache, ccr: u32) -> u32
+fn with_cache(cache: CcrCache, ccr: u32) -> u32
     ensures { λ r. ⌜ r ≡ cachedIn cache ccr ⌝ }
 {
     Field::Ccr(Ccr::DBT).set(
@@ -241,7 +244,7 @@ impl Sequence {
             place: 0,
             held: 0,
             kept: [0; 16],
-            refused: false,
+            oversize: false,
             driver,
         }
     }
@@ -252,10 +255,10 @@ impl Sequence {
         self.place
     }
 
-    pub(crate) fn refused(self) -> bool
-        ensures { λ r. ⌜ r ≡ self .refused ⌝ }
+    pub(crate) fn oversize(self) -> bool
+        ensures { λ r. ⌜ r ≡ self .oversize ⌝ }
     {
-        self.refused
+        self.oversize
     }
 
     // The register as last looked at.
@@ -279,17 +282,17 @@ impl Sequence {
         self.kept[i]
     }
 
-    fn onward(self) -> Self
+    fn advance(self) -> Self
         ensures { λ r. ⌜ r ≡ onward self ⌝ }
     {
         let mut s = self;
-        if self.place < 27 {
+        if self.place < LONGEST {
             s.place = self.place + 1;
         }
         s
     }
 
-    fn holding(self, value: u32) -> Self
+    fn hold(self, value: u32) -> Self
         ensures { λ r. ⌜ r ≡ holding value self ⌝ }
     {
         let mut s = self;
@@ -297,7 +300,7 @@ impl Sequence {
         s
     }
 
-    fn keeping(self, register: Register, value: u32) -> Self
+    fn keep(self, register: Register, value: u32) -> Self
         ensures { λ r. ⌜ r ≡ keeping register value self ⌝ }
     {
         let mut s = self;
@@ -306,15 +309,15 @@ impl Sequence {
         s
     }
 
-    fn refusing(self) -> Self
-        ensures { λ r. ⌜ r ≡ refusing self ⌝ }
+    fn refuse(self) -> Self
+        ensures { λ r. ⌜ r ≡ oversized self ⌝ }
     {
         let mut s = self;
-        s.refused = true;
+        s.oversize = true;
         s
     }
 
-    fn driving(self, driver: Lpspi) -> Self
+    fn take(self, driver: Lpspi) -> Self
         ensures { λ r. ⌜ r ≡ driving driver self ⌝ }
     {
         let mut s = self;
@@ -323,7 +326,7 @@ impl Sequence {
     }
 
     // A register's word, changed.
-    fn changed(self, change: Change, word: u32) -> u32
+    fn apply(self, change: Change, word: u32) -> u32
         ensures { λ r. ⌜ r ≡ changed change (self .kept) word ⌝ }
     {
         match change {
@@ -346,7 +349,7 @@ impl Sequence {
             Change::Sample(p) => Field::Cfgr1(Cfgr1::SAMPLE).set(p.sample(), word),
             Change::Peripheral(on) => Field::Cfgr1(Cfgr1::MASTER).set(flag(!on), word),
             Change::Polarity(pcs, p) => Field::Cfgr1(Cfgr1::PCSPOL).set(
-                polarized(
+                with_polarity(
                     pcs,
                     p,
                     Field::Cfgr1(Cfgr1::PCSPOL).read(self.kept(Register::CFGR1)),
@@ -368,8 +371,8 @@ impl Sequence {
             Move::WaitClock(_) => Access::Read(Register::CR),
             Move::Size(_) => Access::Read(Register::PARAM),
             Move::Arrived => Access::Read(Register::RSR),
-            Move::Modify(c) => Access::Write(c.register(), self.changed(c, self.held)),
-            Move::Set(c) => Access::Write(c.register(), self.changed(c, 0)),
+            Move::Modify(c) => Access::Write(c.register(), self.apply(c, self.held)),
+            Move::Set(c) => Access::Write(c.register(), self.apply(c, 0)),
             Move::Write(r, w) => Access::Write(r, w),
             Move::Put(r) => Access::Write(r, self.kept(r)),
             Move::End => Access::Done(Ending::Ok),
@@ -377,47 +380,47 @@ impl Sequence {
     }
 
     // The sequence after a move that was answered `value`.
-    pub(crate) fn moved(self, due: Move, value: u32) -> Self
+    pub(crate) fn after(self, due: Move, value: u32) -> Self
         ensures { λ r. ⌜ r ≡ moved due self value ⌝ }
     {
         match due {
-            Move::Keep(r) => self.keeping(r, value).onward(),
+            Move::Keep(r) => self.keep(r, value).advance(),
             Move::KeepClock => {
                 let driver = self.driver;
-                self.keeping(Register::CCR, cached(driver.ccr_cache(), value))
-                    .onward()
+                self.keep(Register::CCR, with_cache(driver.ccr_cache(), value))
+                    .advance()
             }
-            Move::Look(_) => self.holding(value).onward(),
+            Move::Look(_) => self.hold(value).advance(),
             Move::Wait => {
                 if enabled(value) {
                     return self;
                 }
-                self.onward()
+                self.advance()
             }
             Move::WaitClock(c) => {
                 if enabled(value) {
                     return self;
                 }
                 let driver = self.driver;
-                self.driving(driver.with_clock(c)).onward()
+                self.take(driver.with_clock(c)).advance()
             }
             Move::Size(d) => {
                 if 4 < exponent(d, value) {
-                    return self.refusing();
+                    return self.refuse();
                 }
-                self.keeping(Register::PARAM, value).onward()
+                self.keep(Register::PARAM, value).advance()
             }
             Move::Arrived => {
-                let s = self.keeping(Register::RSR, value).onward();
+                let s = self.keep(Register::RSR, value).advance();
                 if Field::Rsr(Rsr::RXEMPTY).read(value) == 0 {
                     return s;
                 }
-                s.onward()
+                s.advance()
             }
-            Move::Modify(_) => self.onward(),
-            Move::Set(_) => self.onward(),
-            Move::Write(_, _) => self.onward(),
-            Move::Put(_) => self.onward(),
+            Move::Modify(_) => self.advance(),
+            Move::Set(_) => self.advance(),
+            Move::Write(_, _) => self.advance(),
+            Move::Put(_) => self.advance(),
             Move::End => self,
         }
     }

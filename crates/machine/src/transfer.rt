@@ -8,7 +8,7 @@ use crate::poll::Poll;
 use crate::poll::Polled;
 use crate::poll::poll_access;
 use crate::poll::poll_answered;
-use crate::recovery::recovered;
+use crate::recovery::is_recovered;
 use crate::recovery::recovery_move;
 use crate::sequence::Sequence;
 use manual::Register;
@@ -138,7 +138,7 @@ fn after_receiving(poll: Poll, work: Work, value: u32) -> Phase
 fn after_recovery(direction: Direction, reset: Sequence) -> Phase
     ensures { λ r. ⌜ r ≡ afterRecovery direction reset ⌝ }
 {
-    if recovered(reset) {
+    if is_recovered(reset) {
         return Phase::Ended(Ending::Err(LpspiError::Fifo(direction)));
     }
     Phase::Recovery(direction)
@@ -187,7 +187,7 @@ impl Transfer {
         let mut w = self.work;
         w.sent = sent;
         w.received = received;
-        moved(turn(side, w), w, reset)
+        standing(turn(side, w), w, reset)
     }
 
     // The access that is due.
@@ -219,28 +219,28 @@ impl Transfer {
         let work = self.work;
         let reset = self.reset;
         match phase {
-            Phase::Space(p) => moved(after_space(p, value), work, reset),
-            Phase::Command => moved(send_turn(work), work, reset),
-            Phase::Sending(p) => moved(after_sending(p, work, value), work, reset),
+            Phase::Space(p) => standing(after_space(p, value), work, reset),
+            Phase::Command => standing(send_turn(work), work, reset),
+            Phase::Sending(p) => standing(after_sending(p, work, value), work, reset),
             Phase::Send => {
                 let w = one_sent(work);
-                moved(send_turn(w), w, reset)
+                standing(send_turn(w), w, reset)
             }
-            Phase::Receiving(p) => moved(after_receiving(p, work, value), work, reset),
+            Phase::Receiving(p) => standing(after_receiving(p, work, value), work, reset),
             Phase::Receive => {
                 let w = one_received(work);
-                moved(receive_turn(w), w, reset)
+                standing(receive_turn(w), w, reset)
             }
             Phase::Recovery(d) => {
-                let r = reset.moved(recovery_move(reset.place()), value);
-                moved(after_recovery(d, r), work, r)
+                let r = reset.after(recovery_move(reset.place()), value);
+                standing(after_recovery(d, r), work, r)
             }
-            Phase::Ended(e) => moved(Phase::Ended(e), work, reset),
+            Phase::Ended(e) => standing(Phase::Ended(e), work, reset),
         }
     }
 }
 
-fn moved(phase: Phase, work: Work, reset: Sequence) -> Transfer
+fn standing(phase: Phase, work: Work, reset: Sequence) -> Transfer
     ensures { λ r. ⌜ r ≡ at phase work reset ⌝ }
 {
     Transfer { phase, work, reset }

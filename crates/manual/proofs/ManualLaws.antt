@@ -19,7 +19,7 @@ use Rattle.manual.specs.declared.Register.{Register}
 use Rattle.manual.specs.declared.Register.the-variants.{PARAM, CR, SR, IER, DER, CFGR0, CFGR1, DMR0, DMR1, CCR, FCR, FSR, TCR, TDR, RSR, RDR}
 use Rattle.manual.specs.declared.Field.{Field}
 use Rattle.manual.specs.declared.Field.the-variants.{Param, Cr, Sr, Cfgr1, Ccr, Fcr, Fsr, Tcr, Rsr}
-use Rattle.manual.specs.Manual.{bitsOf, registerOf, readField, setField}
+use Rattle.manual.specs.Manual.{bitsOf, registerOf, readField, setField, Setting, setAll}
 use Rattle.manual.proofs.BitsLaws.{get-set, get-set-below, get-set-above}
 
 both : (a b : Bool) → T (a && b) → T a × T b
@@ -156,13 +156,7 @@ pub read-set-other : (f g : Field) (v w : ℕ) → registerOf f ≡ registerOf g
 read-set-other f g v w e n =
     either (apart f g) (sameBits f g) (apart-or-same f g e) (λ t. read-apart f g v w t) (λ t. absurd (n t))
 
--- SEVERAL FIELDS SET, the last one first in the list
-abbrev pub Setting : Type 0
-Setting = Field × ℕ
-
-abbrev pub setAll : List Setting → ℕ → ℕ
-setAll [] w = w
-setAll (s ∷ ss) w = setField (s .0) (s .1) (setAll ss w)
+-- SEVERAL FIELDS SET
 
 -- each setting is of the field g or of one apart from it
 abbrev pub clear : Field → List Setting → Bool
@@ -190,3 +184,18 @@ read-all g (s ∷ ss) w h =
     read-same f g v w t =
         let b = both (eqb (bitsOf f .position) (bitsOf g .position)) (eqb (bitsOf f .width) (bitsOf g .width)) t in
         rw (eqb→eq (bitsOf f .position) (bitsOf g .position) (b .0), eqb→eq (bitsOf f .width) (bitsOf g .width) (b .1)) (get-set (bitsOf g .position) (bitsOf g .width) v w)
+
+-- settings of one register: any field of it reads back as the last of them gave it, or as before
+abbrev pub AllOf : Register → List Setting → Type 0
+AllOf r [] = Unit {0}
+AllOf r (s ∷ ss) = (registerOf (s .0) ≡ r) × AllOf r ss
+
+all-clear : (g : Field) (r : Register) (ss : List Setting) → registerOf g ≡ r → AllOf r ss → T (clear g ss)
+all-clear g r [] e h = tt
+all-clear g r (s ∷ ss) e h = pair (apart (s .0) g || sameBits (s .0) g) (clear g ss) (apart-or-same (s .0) g (h .0 ∙ sym e)) (all-clear g r ss e (h .1))
+  where
+    pair : (a b : Bool) → T a → T b → T (a && b)
+    pair true true s t = tt
+
+pub read-register : (g : Field) (r : Register) (ss : List Setting) (w : ℕ) → registerOf g ≡ r → AllOf r ss → readField g (setAll ss w) ≡ found g ss w
+read-register g r ss w e h = read-all g ss w (all-clear g r ss e h)

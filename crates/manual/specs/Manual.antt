@@ -2,6 +2,7 @@
 -- field's lowest bit and width. Every definition that speaks of a field cites this table.
 -- Assumes nothing.
 use Prim.Native.Nat.{ℕ}
+use mathlib.Core.List.{List, [], _∷_}
 use Rattle.manual.specs.declared.Register.{Register}
 use Rattle.manual.specs.declared.Register.the-variants.{PARAM, CR, SR, IER, DER, CFGR0, CFGR1, DMR0, DMR1, CCR, FCR, FSR, TCR, TDR, RSR, RDR}
 use Rattle.manual.specs.declared.Param.{Param as ParamField}
@@ -130,3 +131,11 @@ readField f w = getBits (bitsOf f .position) (bitsOf f .width) w
 -- the word with only that field changed; the value is masked to the field
 abbrev pub setField : Field → ℕ → ℕ → ℕ
 setField f v w = setBits (bitsOf f .position) (bitsOf f .width) v w
+
+-- several fields set, the last one first in the list
+abbrev pub Setting : Type 0
+Setting = Field × ℕ
+
+abbrev pub setAll : List Setting → ℕ → ℕ
+setAll [] w = w
+setAll (s ∷ ss) w = setField (s .0) (s .1) (setAll ss w)

@@ -11,9 +11,9 @@ use Rattle.machine.specs.declared.call.Call.{Call}
 use Rattle.machine.specs.declared.driver.Lpspi.{Lpspi}
 use Rattle.machine.specs.declared.sequence.Sequence.{Sequence}
 use Rattle.machine.specs.Sequence.{sequenceStart}
-use Rattle.machine.specs.Call.{callAccess, callAfter}
+use Rattle.machine.specs.Call.{callStart, callAccess, callAfter}
 use Rattle.runs.specs.declared.call.Called.{Called}
-use Rattle.runs.specs.Run.{State, limits, endingOf, halted, logOver}
+use Rattle.runs.specs.Run.{State, limits, endingOf, halted}
 use Rattle.runs.specs.Call.{callStates, callLeft, calledBy, callRun}
 use Rattle.runs.proofs.LoopLaws.{At, at-full, at-halted}
 
@@ -24,7 +24,7 @@ CallAt c script old first made used s log = At (callAccess c) (callAfter c) scri
 abbrev called : Ending → ℕ → ℕ → Sequence → Called
 called e made used s = record { ending = e; accesses = made; answers = used; sequence = s }
 
-module _ (c : Call) (d : Lpspi) (script old : List ℕ) (made used : ℕ) (s : Sequence) (log : List ℕ) (h : CallAt c script old (sequenceStart d) made used s log) where
+module _ (c : Call) (d : Lpspi) (script old : List ℕ) (made used : ℕ) (s : Sequence) (log : List ℕ) (h : CallAt c script old (callStart c d) made used s log) where
   abbrev here : State Sequence
   here = callStates c d script made
 
@@ -39,11 +39,11 @@ module _ (c : Call) (d : Lpspi) (script old : List ℕ) (made used : ℕ) (s : S
 
   pub call-full : (budget : ℕ) (e : Ending) → made ≤ budget → budget ≤ made → e ≡ endingOf (callAccess c s)
       → callLeft (called e made used s) log ≡ calledBy c old (callStates c d script budget)
-  call-full budget e l n ee = left-here budget e (at-full (callAccess c) (callAfter c) script old (sequenceStart d) made used s log h budget l n) ee
+  call-full budget e l n ee = left-here budget e (at-full (callAccess c) (callAfter c) script old (callStart c d) made used s log h budget l n) ee
 
   pub call-halted : (budget : ℕ) (e : Ending) → made ≤ budget → halted (callAccess c s) used (length script) ≡ true → e ≡ endingOf (callAccess c s)
       → callLeft (called e made used s) log ≡ calledBy c old (callStates c d script budget)
-  call-halted budget e l stops ee = left-here budget e (at-halted (callAccess c) (callAfter c) script old (sequenceStart d) made used s log h budget l stops) ee
+  call-halted budget e l stops ee = left-here budget e (at-halted (callAccess c) (callAfter c) script old (callStart c d) made used s log h budget l stops) ee
 
 -- number 5, or the run
 pub call-limits : (d : Lpspi) (c : Call) (budget : ℕ) (script log : List ℕ) (s : Sequence) → limits budget log ≡ true → s ≡ sequenceStart d

@@ -1,13 +1,15 @@
--- The run of a flush as the loop makes it, a read at a time.
+-- The run of a flush as the loop makes it: every access is a read, so that as many answers are used as accesses made.
 -- Assumes nothing.
-use Prim.Native.Nat.{ℕ, zero, suc, _+_, _-_, _*_, _<_, _≤_, min}
-use mathlib.Core.Bool.{Bool, true, false, cond}
-use mathlib.Core.List.{List, [], _∷_, _++_}
+use Prim.Native.Nat.{ℕ, _+_, _*_, _<_, _≤_, min}
+use mathlib.Core.Bool.{Bool, true, false}
+use mathlib.Core.List.{List}
 use mathlib.Core.Path.{_≡_, refl, sym, ap, ap₂, _∙_}
 use native.Mathlib.Omega.{arith}
-use lib.ListN.{length, getD, length-append}
+use lib.ListN.{length, getD}
 use lib.Dec.{leb}
 use borrow.Author.Tests.{lt-leb, leb-false}
+use Rattle.manual.specs.declared.Register.the-variants.{SR, PARAM, FSR}
+use Rattle.machine.specs.declared.access.Access.the-variants.{Read}
 use Rattle.machine.specs.declared.access.Ending.{Ending}
 use Rattle.machine.specs.declared.access.Ending.the-variants.{Stopped}
 use Rattle.machine.specs.declared.driver.Lpspi.{Lpspi}
@@ -15,9 +17,9 @@ use Rattle.machine.specs.declared.flush.Flush.{Flush}
 use Rattle.machine.specs.declared.flush.Flush.the-variants.{Status, Sizes, Counts, Ended}
 use Rattle.machine.specs.Flush.{flushAccess, flushed}
 use Rattle.runs.specs.declared.flush.Flushed.{Flushed}
-use Rattle.runs.specs.Run.{limits, Logged, codeOf, halted, ended, endingOf, times, State, start, step, afterAccess, run, left, logOver, put, noWords}
+use Rattle.runs.specs.Run.{limits, codeOf, halted, ended, endingOf, State, left, logOver, put}
 use Rattle.runs.specs.Flush.{flushStates, FlushLeft, flushLeft, flushLoop, flushRun}
-use Rattle.runs.proofs.RunLaws.{run-add, run-halted, run-last, log-put}
+use Rattle.runs.proofs.LoopLaws.{At, at-next, at-full, at-halted}
 
 -- a flush that has not ended reads: it is halted where the script is used up, and stopped where it halts
 reads-halted : (f : Flush) (used answers : ℕ) → ended (flushAccess f) ≡ false → halted (flushAccess f) used answers ≡ leb answers used
@@ -39,118 +41,55 @@ ended-halted Counts used answers e = cc
 ended-halted (Ended x) used answers e = refl
 
 -- after n accesses the loop holds f and this log
-pub record At (script old : List ℕ) (n : ℕ) (f : Flush) (log : List ℕ) : Type 0 where
-  pub machine : flushStates script n .machine ≡ f
-  pub used : flushStates script n .used ≡ n
-  pub pairs : length (flushStates script n .log) ≡ n
-  pub held : log ≡ logOver old (flushStates script n .log)
+abbrev pub FlushAt : List ℕ → List ℕ → ℕ → Flush → List ℕ → Type 0
+FlushAt script old n f log = At flushAccess flushed script old Status n n f log
 
-pub at-start : (script old : List ℕ) → At script old 0 Status old
-unfolding times
-at-start script old = record { machine = refl; used = refl; pairs = refl; held = refl }
+-- THE LOOP: one turn
+module _ (script old : List ℕ) (n : ℕ) where
+  pub flush-next : (f g : Flush) (v : ℕ) (log log′ : List ℕ) → FlushAt script old n f log → ended (flushAccess f) ≡ false → n < length script → 2 * n + 1 < length old
+      → v ≡ getD script n 0 → log′ ≡ put log n (codeOf (flushAccess f)) v → g ≡ flushed f v → FlushAt script old (n + 1) g log′
+  flush-next Status g v log log′ h e l r ev el eg = at-next flushAccess flushed script old Status n n Status log h (Read SR) v refl (lt-leb (length script) n l) ev g log′ r eg el
+  flush-next Sizes g v log log′ h e l r ev el eg = at-next flushAccess flushed script old Status n n Sizes log h (Read PARAM) v refl (lt-leb (length script) n l) ev g log′ r eg el
+  flush-next Counts g v log log′ h e l r ev el eg = at-next flushAccess flushed script old Status n n Counts log h (Read FSR) v refl (lt-leb (length script) n l) ev g log′ r eg el
+  flush-next (Ended x) g v log log′ h e l r ev el eg = absurd (let z : _≡_ {A = ℕ} 0 1 = cc in omega arith)
 
-entry : List ℕ → Flush → ℕ → Logged
-entry script f n = record { at = codeOf (flushAccess f); value = getD script n 0 }
+-- ITS END
+module _ (script old : List ℕ) (n : ℕ) (f : Flush) (log : List ℕ) (h : FlushAt script old n f log) where
+  -- what the loop answers, and that it used as many answers
+  abbrev LoopLeft : ℕ → Ending → Type 0
+  LoopLeft budget x = (flushLeft (record { ending = x; accesses = n }) log ≡ flushLoop script budget old) × (flushStates script budget .used ≡ n)
 
--- one read
-stepped : (script : List ℕ) (f : Flush) (n : ℕ) (l : List Logged) (r : List ℕ) → ended (flushAccess f) ≡ false → n < length script
-    → step flushAccess flushed noWords script (record { machine = f; used = n; log = l; received = r })
-    ≡ record { machine = flushed f (getD script n 0); used = n + 1; log = l ++ (entry script f n ∷ []); received = r }
-unfolding step afterAccess entry
-stepped script Status n l r e h = rw (lt-leb (length script) n h)
-stepped script Sizes n l r e h = rw (lt-leb (length script) n h)
-stepped script Counts n l r e h = rw (lt-leb (length script) n h)
-stepped script (Ended x) n l r e h = cc
+  abbrev here : State Flush
+  here = flushStates script n
 
-module _ (script old : List ℕ) (n : ℕ) (f : Flush) (log : List ℕ) (a : At script old n f log) where
-  abbrev now : State Flush
-  now = flushStates script n
-
-  next-state : ended (flushAccess f) ≡ false → n < length script
-      → flushStates script (n + 1) ≡ record { machine = flushed f (getD script n 0); used = n + 1; log = now .log ++ (entry script f n ∷ []); received = now .received }
-  next-state e h =
-      run-last flushAccess flushed noWords script n (start Status)
-      ∙ ap₂ (λ (g : Flush) (m : ℕ). step flushAccess flushed noWords script (record { machine = g; used = m; log = now .log; received = now .received })) (a .machine) (a .used)
-      ∙ stepped script f n (now .log) (now .received) e h
-
-  -- THE LOOP: one turn
-  pub at-next : (g : Flush) (v : ℕ) (log′ : List ℕ) → ended (flushAccess f) ≡ false → n < length script → 2 * n + 1 < length old
-      → v ≡ getD script n 0 → log′ ≡ put log n (codeOf (flushAccess f)) (getD script n 0) → g ≡ flushed f v → At script old (n + 1) g log′
-  unfolding entry
-  at-next g v log′ e h l ev el eg =
-      let s = next-state e h in
-      let p : length (now .log ++ (entry script f n ∷ [])) ≡ n + 1 = length-append (now .log) (entry script f n ∷ []) ∙ ap (λ (m : ℕ). m + 1) (a .pairs) in
-      record {
-        machine = ap (λ (x : State Flush). x .machine) s ∙ ap (flushed f) (sym ev) ∙ sym eg;
-        used = ap (λ (x : State Flush). x .used) s;
-        pairs = ap (λ (x : State Flush). length (x .log)) s ∙ p;
-        held = el
-            ∙ ap₂ (λ (x : List ℕ) (m : ℕ). put x m (codeOf (flushAccess f)) (getD script n 0)) (a .held) (sym (a .pairs))
-            ∙ log-put old (now .log) (entry script f n) (omega (arith, a .pairs))
-            ∙ ap (λ (x : State Flush). logOver old (x .log)) (sym s);
-      }
-
-  -- its end: the run makes no further access
-  whole : (budget : ℕ) → n ≤ budget → run flushAccess flushed noWords script (budget - n) now ≡ now → flushStates script budget ≡ now
-  whole budget h e =
-      ap (λ (m : ℕ). run flushAccess flushed noWords script m (start Status)) (let x : budget ≡ n + (budget - n) = omega arith in x)
-      ∙ run-add flushAccess flushed noWords script n (budget - n) (start Status)
-      ∙ e
-
-  left-now : (budget : ℕ) (x : Ending) → flushStates script budget ≡ now → x ≡ endingOf (flushAccess f)
-      → flushLeft (record { ending = x; accesses = n }) log ≡ flushLoop script budget old
+  left-here : (budget : ℕ) (x : Ending) → flushStates script budget ≡ here → x ≡ endingOf (flushAccess f) → LoopLeft budget x
   unfolding flushLoop
-  left-now budget x e ex =
-      ap₂ (λ (y : Ending) (m : ℕ). flushLeft (record { ending = y; accesses = m }) log) (ex ∙ ap (λ (g : Flush). endingOf (flushAccess g)) (sym (a .machine))) (sym (a .pairs))
-      ∙ ap (flushLeft (record { ending = endingOf (flushAccess (now .machine)); accesses = length (now .log) })) (a .held)
-      ∙ ap (λ (s : State Flush). flushLeft (record { ending = endingOf (flushAccess (s .machine)); accesses = length (s .log) }) (logOver old (s .log))) (sym e)
+  left-here budget x e ex = (
+    ap₂ (λ (y : Ending) (m : ℕ). flushLeft (record { ending = y; accesses = m }) log) (ex ∙ ap (λ (g : Flush). endingOf (flushAccess g)) (sym (h .machine))) (sym (h .pairs))
+        ∙ ap (flushLeft (record { ending = endingOf (flushAccess (here .machine)); accesses = length (here .log) })) (h .held)
+        ∙ ap (λ (s : State Flush). flushLeft (record { ending = endingOf (flushAccess (s .machine)); accesses = length (s .log) }) (logOver old (s .log))) (sym e),
+    ap (λ (s : State Flush). s .used) e ∙ h .answers,
+  )
 
-  halts : (budget : ℕ) → n ≤ budget → halted (flushAccess f) n (length script) ≡ true → flushStates script budget ≡ now
-  halts budget h e =
-      whole budget h (run-halted flushAccess flushed noWords script (budget - n) now (ap₂ (λ (g : Flush) (m : ℕ). halted (flushAccess g) m (length script)) (a .machine) (a .used) ∙ e))
+  halts : (budget : ℕ) → n ≤ budget → halted (flushAccess f) n (length script) ≡ true → flushStates script budget ≡ here
+  halts budget l e = at-halted flushAccess flushed script old Status n n f log h budget l e
 
-  pub loop-ended : (budget : ℕ) (x : Ending) → n ≤ budget → ended (flushAccess f) ≡ true → x ≡ endingOf (flushAccess f)
-      → flushLeft (record { ending = x; accesses = n }) log ≡ flushLoop script budget old
-  loop-ended budget x h e ex = left-now budget x (halts budget h (ended-halted f n (length script) e)) ex
+  pub loop-ended : (budget : ℕ) (x : Ending) → n ≤ budget → ended (flushAccess f) ≡ true → x ≡ endingOf (flushAccess f) → LoopLeft budget x
+  loop-ended budget x l e ex = left-here budget x (halts budget l (ended-halted f n (length script) e)) ex
 
-  pub loop-stopped : (budget : ℕ) → n ≤ budget → ended (flushAccess f) ≡ false → min budget (length script) ≤ n
-      → flushLeft (record { ending = Stopped; accesses = n }) log ≡ flushLoop script budget old
-  loop-stopped budget h e l = left-now budget Stopped (by-test (leb (length script) n) refl) (sym (stopped-due f e))
+  pub loop-stopped : (budget : ℕ) → n ≤ budget → ended (flushAccess f) ≡ false → min budget (length script) ≤ n → LoopLeft budget Stopped
+  loop-stopped budget l e r = left-here budget Stopped (by-test (leb (length script) n) refl) (sym (stopped-due f e))
     where
-      by-test : (t : Bool) → leb (length script) n ≡ t → flushStates script budget ≡ now
-      by-test true t = halts budget h (reads-halted f n (length script) e ∙ t)
-      by-test false t = ap (flushStates script) (let b = leb-false (length script) n t in let x : budget ≡ n = omega arith in x)
-
--- EVERY ACCESS OF A FLUSH IS A READ: as many answers are used as accesses made
-record AsMany (s : State Flush) : Type 0 where
-  equal : s .used ≡ length (s .log)
-
-by-cond : (t : Bool) (s u : State Flush) → AsMany s → AsMany u → AsMany (cond t s u)
-by-cond true s u h k = h
-by-cond false s u h k = k
-
-one-more : (n : ℕ) (l : List Logged) (x : Logged) → n ≡ length l → n + 1 ≡ length (l ++ (x ∷ []))
-one-more n l x h = omega (arith, length-append l (x ∷ []))
-
-used-step : (script : List ℕ) (f : Flush) (n : ℕ) (l : List Logged) (r : List ℕ) → n ≡ length l
-    → AsMany (step flushAccess flushed noWords script (record { machine = f; used = n; log = l; received = r }))
-unfolding step afterAccess
-used-step script Status n l r h = by-cond (leb (length script) n) _ _ (record { equal = h }) (record { equal = one-more n l _ h })
-used-step script Sizes n l r h = by-cond (leb (length script) n) _ _ (record { equal = h }) (record { equal = one-more n l _ h })
-used-step script Counts n l r h = by-cond (leb (length script) n) _ _ (record { equal = h }) (record { equal = one-more n l _ h })
-used-step script (Ended x) n l r h = record { equal = h }
-
-used-pairs : (script : List ℕ) (n : ℕ) (s : State Flush) → AsMany s → AsMany (run flushAccess flushed noWords script n s)
-unfolding times
-used-pairs script zero s h = h
-used-pairs script (suc n) s h = used-pairs script n (step flushAccess flushed noWords script s) (used-step script (s .machine) (s .used) (s .log) (s .received) (h .equal))
+      by-test : (t : Bool) → leb (length script) n ≡ t → flushStates script budget ≡ here
+      by-test true t = halts budget l (reads-halted f n (length script) e ∙ t)
+      by-test false t = at-full flushAccess flushed script old Status n n f log h budget l (let b = leb-false (length script) n t in omega arith)
 
 -- the call's result, from the loop's
 pub flush-result : (d : Lpspi) (script old : List ℕ) (budget : ℕ) (r : Flushed) (log : List ℕ) → limits budget old ≡ false → flushLeft r log ≡ flushLoop script budget old
+    → flushStates script budget .used ≡ r .accesses
     → left (record { ending = r .ending; accesses = r .accesses; answers = r .accesses; driver = d }) log ≡ flushRun d budget script old
 unfolding flushLoop
-flush-result d script old budget r log h e =
-    let s = flushStates script budget in
+flush-result d script old budget r log h e u =
     rw h
-    (ap (λ (x : FlushLeft). left (record { ending = x .flushed .ending; accesses = x .flushed .accesses; answers = x .flushed .accesses; driver = d }) (x .log)) e
-    ∙ ap (λ (m : ℕ). left (record { ending = endingOf (flushAccess (s .machine)); accesses = length (s .log); answers = m; driver = d }) (logOver old (s .log))) (sym (used-pairs script budget (start Status) (record { equal = refl }) .equal)))
+    (ap (λ (m : ℕ). left (record { ending = r .ending; accesses = r .accesses; answers = m; driver = d }) log) (sym u)
+    ∙ ap (λ (x : FlushLeft). left (record { ending = x .flushed .ending; accesses = x .flushed .accesses; answers = flushStates script budget .used; driver = d }) (x .log)) e)

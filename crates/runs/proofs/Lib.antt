@@ -7,6 +7,7 @@ pub mod Bill
 pub mod Calls
 pub mod DriveLaws
 mod FlushLaws
+mod PlainLaws
 mod LoopLaws
 mod CallRunLaws
 mod TurnLaws

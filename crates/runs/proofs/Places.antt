@@ -20,18 +20,16 @@ use Rattle.machine.specs.declared.poll.Poll.{Poll}
 use Rattle.machine.specs.declared.poll.Poll.the-variants.{Status, Sizes, Counts}
 use Rattle.machine.specs.declared.poll.Polled.{Polled}
 use Rattle.machine.specs.declared.poll.Polled.the-variants.{Failed, Next, Ready, Unready}
-use Rattle.machine.specs.declared.sequence.Move.{Move}
-use Rattle.machine.specs.declared.sequence.Move.the-variants.{Keep, KeepClock, Look, Wait, WaitClock, Size, Arrived, Modify, Set, Write as WriteMove, Put, End}
 use Rattle.machine.specs.declared.sequence.Sequence.{Sequence}
 use Rattle.machine.specs.declared.transfer.Phase.{Phase}
 use Rattle.machine.specs.declared.transfer.Phase.the-variants.{Space, Command, Sending, Send, Receiving, Receive, Recovery, Ended}
 use Rattle.machine.specs.declared.transfer.Work.{Work}
 use Rattle.machine.specs.declared.transfer.Transfer.{Transfer}
 use Rattle.machine.specs.Poll.{pollAccess, polled}
-use Rattle.machine.specs.Sequence.{moveAccess}
-use Rattle.machine.specs.Recovery.{recovery, recoveryMove, recoveryAfter, recovered}
+use Rattle.machine.specs.Recovery.{recoveryAccess, recoveryAfter, recovered}
 use Rattle.machine.specs.Transfer.{at, startTransfer, sendTurn, receiveTurn, counted, oneSent, oneReceived, spaceBy, sendingBy, receivingBy, dueAccess, resumed}
 use Rattle.runs.specs.Run.{State, start, halted, answerOf, receivedAfter, times, afterAccess, step, run}
+use Rattle.runs.proofs.PlainLaws.{kind, plain-keeps, poll-plain, recovery-plain}
 
 -- what a phase knows: no word is done before TCR, a side that has its turn has words left, and Ok comes when all are done
 abbrev Final : Ending → Work → Type 0
@@ -106,26 +104,6 @@ counted-up n limit h = by-test (ltb n limit) refl
     by-test true e = refl
     by-test false e = omega (arith, ltb-false n limit e)
 
--- polls and recovery receive no word
-poll-keeps : (p : Poll) (v : ℕ) (rs : List ℕ) → receivedAfter (pollAccess p) v rs ≡ rs
-poll-keeps Status v rs = refl
-poll-keeps Sizes v rs = refl
-poll-keeps (Counts x) v rs = refl
-
-move-keeps : (m : Move) (s : Sequence) (v : ℕ) (rs : List ℕ) → receivedAfter (moveAccess m s) v rs ≡ rs
-move-keeps (Keep k) s v rs = refl
-move-keeps KeepClock s v rs = refl
-move-keeps (Look k) s v rs = refl
-move-keeps Wait s v rs = refl
-move-keeps (WaitClock c) s v rs = refl
-move-keeps (Size k) s v rs = refl
-move-keeps Arrived s v rs = refl
-move-keeps (Modify c) s v rs = refl
-move-keeps (Set c) s v rs = refl
-move-keeps (WriteMove k w) s v rs = refl
-move-keeps (Put k) s v rs = refl
-move-keeps End s v rs = refl
-
 module _ (send receive : ℕ) where
   -- the same words done: another phase
   on : (p q : Phase) (w : Work) (r u : Sequence) (n : ℕ) → Placed send receive (at p w r) n → (w .sent ≤ w .send → w .received ≤ w .receive → Standing p w → Standing q w) → Placed send receive (at q w u) n
@@ -142,9 +120,9 @@ module _ (send receive : ℕ) where
   placed-on : (p : Phase) (w : Work) (r : Sequence) (a v : ℕ) (rs : List ℕ) → Placed send receive (at p w r) (length rs)
       → Placed send receive (resumed (at p w r) a) (length (receivedAfter (dueAccess (at p w r)) v rs))
   unfolding dueAccess resumed
-  placed-on (Space p) w r a v rs h = rw (poll-keeps p v rs) (on (Space p) _ w r r (length rs) h (λ s t u. space-turn (polled Tx p a) w u))
+  placed-on (Space p) w r a v rs h = rw (plain-keeps (pollAccess p) (poll-plain p) v rs) (on (Space p) _ w r r (length rs) h (λ s t u. space-turn (polled Tx p a) w u))
   placed-on Command w r a v rs h = on Command _ w r r (length rs) h (λ s t u. send-turn w s t)
-  placed-on (Sending p) w r a v rs h = rw (poll-keeps p v rs) (on (Sending p) _ w r r (length rs) h (sending-turn (polled Tx p a) w))
+  placed-on (Sending p) w r a v rs h = rw (plain-keeps (pollAccess p) (poll-plain p) v rs) (on (Sending p) _ w r r (length rs) h (sending-turn (polled Tx p a) w))
   placed-on Send w r a v rs h =
       let up : counted (w .sent) (w .send) ≡ w .sent + 1 = counted-up (w .sent) (w .send) (h .turn) in
       record {
@@ -155,7 +133,7 @@ module _ (send receive : ℕ) where
         holds = h .holds;
         turn = send-turn (oneSent w) (omega arith) (omega arith);
       }
-  placed-on (Receiving p) w r a v rs h = rw (poll-keeps p v rs) (on (Receiving p) _ w r r (length rs) h (receiving-turn (polled Rx p a) w))
+  placed-on (Receiving p) w r a v rs h = rw (plain-keeps (pollAccess p) (poll-plain p) v rs) (on (Receiving p) _ w r r (length rs) h (receiving-turn (polled Rx p a) w))
   placed-on Receive w r a v rs h =
       let up : counted (w .received) (w .receive) ≡ w .received + 1 = counted-up (w .received) (w .receive) (h .turn) in
       record {
@@ -166,7 +144,7 @@ module _ (send receive : ℕ) where
         holds = omega (arith, length-append rs (v ∷ []));
         turn = receive-turn (oneReceived w) (omega arith) (omega arith);
       }
-  placed-on (Recovery d) w r a v rs h = rw (move-keeps (recoveryMove (r .place)) r v rs) (on (Recovery d) _ w r (recoveryAfter r a) (length rs) h (λ s t u. recovery-turn (recovered (recoveryAfter r a)) d w))
+  placed-on (Recovery d) w r a v rs h = rw (plain-keeps (recoveryAccess r) (recovery-plain r) v rs) (on (Recovery d) _ w r (recoveryAfter r a) (length rs) h (λ s t u. recovery-turn (recovered (recoveryAfter r a)) d w))
   placed-on (Ended e) w r a v rs h = h
 
   module _ (words : List ℕ → ℕ → ℕ) (script : List ℕ) where
@@ -197,101 +175,38 @@ pub record InOrder (send receive : ℕ) (s : State Transfer) : Type 0 where
   pub receives : (i : ℕ) → dueAccess (s .machine) ≡ ReceiveWord i → (i ≡ s .machine .work .received) × (i < receive)
   pub all : dueAccess (s .machine) ≡ Done Ok → (s .machine .work .sent ≡ send) × (s .machine .work .received ≡ receive)
 
--- which access is due, by number
-abbrev kind : Access → ℕ
-kind (Read r) = 0
-kind (Write r v) = 1
-kind (SendWord i) = 2
-kind (ReceiveWord i) = 3
-kind (Done e) = 4
-
-poll-kind : (p : Poll) → kind (pollAccess p) ≡ 0
-poll-kind Status = refl
-poll-kind Sizes = refl
-poll-kind (Counts x) = refl
-
--- the recovery does not end before its table does
-abbrev isEnd : Move → Bool
-isEnd (Keep k) = false
-isEnd KeepClock = false
-isEnd (Look k) = false
-isEnd Wait = false
-isEnd (WaitClock c) = false
-isEnd (Size k) = false
-isEnd Arrived = false
-isEnd (Modify c) = false
-isEnd (Set c) = false
-isEnd (WriteMove k w) = false
-isEnd (Put k) = false
-isEnd End = true
-
-move-kind : (m : Move) (s : Sequence) → isEnd m ≡ false → kind (moveAccess m s) ≤ 1
-move-kind (Keep k) s h = omega arith
-move-kind KeepClock s h = omega arith
-move-kind (Look k) s h = omega arith
-move-kind Wait s h = omega arith
-move-kind (WaitClock c) s h = omega arith
-move-kind (Size k) s h = omega arith
-move-kind Arrived s h = omega arith
-move-kind (Modify c) s h = omega arith
-move-kind (Set c) s h = omega arith
-move-kind (WriteMove k w) s h = omega arith
-move-kind (Put k) s h = omega arith
-move-kind End s h = absurd (let z : _≡_ {A = ℕ} 0 1 = cc in omega arith)
-
-abbrev hasEnd : List Move → Bool
-hasEnd [] = false
-hasEnd (m ∷ l) = cond (isEnd m) true (hasEnd l)
-
-no-end : (l : List Move) (d : Move) (i : ℕ) → hasEnd l ≡ false → isEnd d ≡ false → isEnd (getD l i d) ≡ false
-no-end [] d zero h e = e
-no-end [] d (suc i) h e = e
-no-end (m ∷ l) d zero h e = first (isEnd m) (hasEnd l) h
-  where
-    first : (a b : Bool) → cond a true b ≡ false → a ≡ false
-    first true b h = cc
-    first false b h = refl
-no-end (m ∷ l) d (suc i) h e = no-end l d i (rest (isEnd m) (hasEnd l) h) e
-  where
-    rest : (a b : Bool) → cond a true b ≡ false → b ≡ false
-    rest true b h = cc
-    rest false b h = h
-
-recovery-kind : (r : Sequence) → kind (moveAccess (recoveryMove (r .place)) r) ≤ 1
-recovery-kind r = move-kind (recoveryMove (r .place)) r (no-end recovery (recoveryMove 27) (r .place) refl refl)
-
 due-send : (p : Phase) (w : Work) (r : Sequence) (i : ℕ) → Standing p w → dueAccess (at p w r) ≡ SendWord i → (i ≡ w .sent) × (i < w .send)
 unfolding dueAccess
-due-send (Space p) w r i h e = absurd (omega (arith, poll-kind p, ap kind e))
+due-send (Space p) w r i h e = absurd (omega (arith, poll-plain p, ap kind e))
 due-send Command w r i h e = absurd (omega (arith, ap kind e))
-due-send (Sending p) w r i h e = absurd (omega (arith, poll-kind p, ap kind e))
+due-send (Sending p) w r i h e = absurd (omega (arith, poll-plain p, ap kind e))
 due-send Send w r i h e = let x : i ≡ w .sent = cc in omega arith
-due-send (Receiving p) w r i h e = absurd (omega (arith, poll-kind p, ap kind e))
+due-send (Receiving p) w r i h e = absurd (omega (arith, poll-plain p, ap kind e))
 due-send Receive w r i h e = absurd (omega (arith, ap kind e))
-due-send (Recovery d) w r i h e = absurd (omega (arith, recovery-kind r, ap kind e))
+due-send (Recovery d) w r i h e = absurd (omega (arith, recovery-plain r, ap kind e))
 due-send (Ended x) w r i h e = absurd (omega (arith, ap kind e))
 
 due-receive : (p : Phase) (w : Work) (r : Sequence) (i : ℕ) → Standing p w → dueAccess (at p w r) ≡ ReceiveWord i → (i ≡ w .received) × (i < w .receive)
 unfolding dueAccess
-due-receive (Space p) w r i h e = absurd (omega (arith, poll-kind p, ap kind e))
+due-receive (Space p) w r i h e = absurd (omega (arith, poll-plain p, ap kind e))
 due-receive Command w r i h e = absurd (omega (arith, ap kind e))
-due-receive (Sending p) w r i h e = absurd (omega (arith, poll-kind p, ap kind e))
+due-receive (Sending p) w r i h e = absurd (omega (arith, poll-plain p, ap kind e))
 due-receive Send w r i h e = absurd (omega (arith, ap kind e))
-due-receive (Receiving p) w r i h e = absurd (omega (arith, poll-kind p, ap kind e))
+due-receive (Receiving p) w r i h e = absurd (omega (arith, poll-plain p, ap kind e))
 due-receive Receive w r i h e = let x : i ≡ w .received = cc in omega arith
-due-receive (Recovery d) w r i h e = absurd (omega (arith, recovery-kind r, ap kind e))
+due-receive (Recovery d) w r i h e = absurd (omega (arith, recovery-plain r, ap kind e))
 due-receive (Ended x) w r i h e = absurd (omega (arith, ap kind e))
 
 -- a transfer answers where it has ended
 pub done-phase : (p : Phase) (w : Work) (r : Sequence) (x : Ending) → dueAccess (at p w r) ≡ Done x → p ≡ Ended x
 unfolding dueAccess
-done-phase (Space p) w r x e = absurd (omega (arith, poll-kind p, ap kind e))
+done-phase (Space p) w r x e = absurd (omega (arith, poll-plain p, ap kind e))
 done-phase Command w r x e = absurd (omega (arith, ap kind e))
-done-phase (Sending p) w r x e = absurd (omega (arith, poll-kind p, ap kind e))
+done-phase (Sending p) w r x e = absurd (omega (arith, poll-plain p, ap kind e))
 done-phase Send w r x e = absurd (omega (arith, ap kind e))
-done-phase (Receiving p) w r x e = absurd (omega (arith, poll-kind p, ap kind e))
+done-phase (Receiving p) w r x e = absurd (omega (arith, poll-plain p, ap kind e))
 done-phase Receive w r x e = absurd (omega (arith, ap kind e))
-done-phase (Recovery d) w r x e = absurd (omega (arith, recovery-kind r, ap kind e))
+done-phase (Recovery d) w r x e = absurd (omega (arith, recovery-plain r, ap kind e))
 done-phase (Ended y) w r x e = cc
 
 pub in-order : (send receive : ℕ) (s : State Transfer) → Placed send receive (s .machine) (length (s .received)) → InOrder send receive s

@@ -12,19 +12,15 @@ use borrow.Author.Tests.{lt-leb, leb-false}
 use Rattle.manual.specs.declared.Register.{Register}
 use Rattle.machine.specs.declared.access.Access.{Access}
 use Rattle.machine.specs.declared.access.Access.the-variants.{Read, Write, Send, Receive, Done}
-use Rattle.machine.specs.declared.poll.Poll.{Poll}
-use Rattle.machine.specs.declared.poll.Poll.the-variants.{Status, Sizes, Counts}
-use Rattle.machine.specs.declared.sequence.Move.{Move}
-use Rattle.machine.specs.declared.sequence.Move.the-variants.{Keep, KeepClock, Look, Wait, WaitClock, Size, Arrived, Modify, Set, Write as WriteMove, Put, End}
 use Rattle.machine.specs.declared.sequence.Sequence.{Sequence}
 use Rattle.machine.specs.declared.transfer.Phase.{Phase}
 use Rattle.machine.specs.declared.transfer.Phase.the-variants.{Space, Command, Sending, Send as SendPhase, Receiving, Receive as ReceivePhase, Recovery, Ended}
 use Rattle.machine.specs.declared.transfer.Work.{Work}
 use Rattle.machine.specs.Poll.{pollAccess}
-use Rattle.machine.specs.Sequence.{moveAccess}
-use Rattle.machine.specs.Recovery.{recoveryMove}
+use Rattle.machine.specs.Recovery.{recoveryAccess}
 use Rattle.machine.specs.Transfer.{at, dueAccess, resumed}
 use Rattle.runs.specs.Run.{Logged, codeOf, valueOf, usesOf, answerOf, receivedAfter, halted, times, State, afterAccess, step, run}
+use Rattle.runs.proofs.PlainLaws.{kind, poll-plain, recovery-plain}
 use Rattle.runs.proofs.RunLaws.{step-log, run-log}
 
 -- the accesses made: which register, read or written
@@ -182,44 +178,18 @@ module _ {M : Type 0} (next : M → Access) (resume : M → ℕ → M) where
     run-words (suc n) s = run-words n (step next resume w₁ script s) ∙ ap (times (step next resume w₂ script) n) (step-words s)
 
 -- A TRANSFER DOES NOT LOOK at the words that it receives
-abbrev receives : Access → ℕ
-receives (Read g) = 0
-receives (Write g v) = 0
-receives (Send i) = 0
-receives (Receive i) = 1
-receives (Done e) = 0
-
-poll-reads : (q : Poll) → receives (pollAccess q) ≡ 0
-poll-reads Status = refl
-poll-reads Sizes = refl
-poll-reads (Counts param) = refl
-
-move-none : (x : Move) (r : Sequence) → receives (moveAccess x r) ≡ 0
-move-none (Keep k) r = refl
-move-none KeepClock r = refl
-move-none (Look k) r = refl
-move-none Wait r = refl
-move-none (WaitClock c) r = refl
-move-none (Size k) r = refl
-move-none Arrived r = refl
-move-none (Modify c) r = refl
-move-none (Set c) r = refl
-move-none (WriteMove k w) r = refl
-move-none (Put k) r = refl
-move-none End r = refl
-
-not-received : {A : Type 0} (a : Access) (i : ℕ) → receives a ≡ 0 → a ≡ Receive i → A
-not-received a i z e = absurd (let q : _≡_ {A = ℕ} 0 1 = sym z ∙ ap receives e in omega arith)
+not-received : {A : Type 0} (a : Access) (i : ℕ) → kind a ≤ 1 → a ≡ Receive i → A
+not-received a i h e = absurd (let q : kind a ≡ 3 = ap kind e in omega arith)
 
 blind-in : (p : Phase) (w : Work) (r : Sequence) (i v u : ℕ) → dueAccess (at p w r) ≡ Receive i → resumed (at p w r) v ≡ resumed (at p w r) u
 unfolding dueAccess resumed
-blind-in (Space q) w r i v u e = not-received (pollAccess q) i (poll-reads q) e
+blind-in (Space q) w r i v u e = not-received (pollAccess q) i (poll-plain q) e
 blind-in Command w r i v u e = refl
-blind-in (Sending q) w r i v u e = not-received (pollAccess q) i (poll-reads q) e
+blind-in (Sending q) w r i v u e = not-received (pollAccess q) i (poll-plain q) e
 blind-in SendPhase w r i v u e = refl
-blind-in (Receiving q) w r i v u e = not-received (pollAccess q) i (poll-reads q) e
+blind-in (Receiving q) w r i v u e = not-received (pollAccess q) i (poll-plain q) e
 blind-in ReceivePhase w r i v u e = refl
-blind-in (Recovery d) w r i v u e = not-received (moveAccess (recoveryMove (r .place)) r) i (move-none (recoveryMove (r .place)) r) e
+blind-in (Recovery d) w r i v u e = not-received (recoveryAccess r) i (recovery-plain r) e
 blind-in (Ended x) w r i v u e = refl
 
 pub transfer-blind : Blind dueAccess resumed

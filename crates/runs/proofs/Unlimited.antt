@@ -24,7 +24,7 @@ use Rattle.machine.specs.declared.transfer.Work.{Work}
 use Rattle.machine.specs.declared.transfer.Transfer.{Transfer}
 use Rattle.machine.specs.Flush.{flushAccess, flushed}
 use Rattle.machine.specs.Sequence.{moveAccess, moved, onward}
-use Rattle.machine.specs.Recovery.{recovery, recoveryMove, recovered}
+use Rattle.machine.specs.Recovery.{recovery, recoveryMove}
 use Rattle.machine.specs.Transfer.{at, sendTurn, oneSent, afterRecovery, dueAccess, resumed}
 use Rattle.runs.specs.Run.{State, ended, usesOf, run}
 use Rattle.runs.specs.Unlimited.{Unlimited}

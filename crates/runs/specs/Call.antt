@@ -9,21 +9,23 @@ use Rattle.machine.specs.declared.call.Call.{Call}
 use Rattle.machine.specs.declared.driver.Lpspi.{Lpspi}
 use Rattle.machine.specs.declared.sequence.Sequence.{Sequence}
 use Rattle.machine.specs.Sequence.{sequenceStart}
-use Rattle.machine.specs.Call.{callAccess, callAfter}
+use Rattle.machine.specs.Access.{numberOf}
+use Rattle.machine.specs.Call.{callStart, callAccess, callAfter}
 use Rattle.runs.specs.declared.call.Called.{Called}
 use Rattle.runs.specs.declared.result.RunResult.{RunResult}
 use Rattle.runs.specs.Run.{State, limits, run, start, noWords, endingOf, logOver}
 
 abbrev pub callStates : Call → Lpspi → List ℕ → ℕ → State Sequence
-callStates c d script budget = run (callAccess c) (callAfter c) noWords script budget (start (sequenceStart d))
+callStates c d script budget = run (callAccess c) (callAfter c) noWords script budget (start (callStart c d))
 
--- what a call comes to, and its log
+-- what a call comes to, document 01's number of it, and its log
 pub record CallLeft : Type 0 where
   pub called : Called
+  pub number : ℕ
   pub log : List ℕ
 
 abbrev pub callLeft : Called → List ℕ → CallLeft
-callLeft r log = record { called = r; log = log }
+callLeft r log = record { called = r; number = numberOf (r .ending); log = log }
 
 -- a run that came to the state s
 unfoldable pub calledBy : Call → List ℕ → State Sequence → CallLeft
@@ -32,7 +34,7 @@ calledBy c old s =
     (record { ending = endingOf (callAccess c (s .machine)); accesses = length (s .log); answers = s .used; sequence = s .machine })
     (logOver old (s .log))
 
--- A CALL: number 5, all as found, or the run
+-- A CALL: number 5, all as found, or the run from the call's start
 unfoldable pub callRun : Lpspi → Call → ℕ → List ℕ → List ℕ → CallLeft
 callRun d c budget script log =
     cond (limits budget log) (callLeft (record { ending = Limits; accesses = 0; answers = 0; sequence = sequenceStart d }) log)

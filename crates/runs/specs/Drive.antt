@@ -15,6 +15,7 @@ use Rattle.machine.specs.declared.access.Access.the-variants.{Read, Write, Send
 use Rattle.machine.specs.declared.driver.Lpspi.{Lpspi}
 use Rattle.machine.specs.declared.transfer.Transfer.{Transfer}
 use Rattle.machine.specs.declared.access.Ending.the-variants.{Limits}
+use Rattle.machine.specs.Access.{numberOf}
 use Rattle.machine.specs.Transfer.{startTransfer, counted, dueAccess, resumed}
 use Rattle.runs.specs.declared.drive.Frame.{Frame}
 use Rattle.runs.specs.declared.drive.Spot.{Spot}
@@ -65,13 +66,15 @@ module _ (f : Frame) (script send : List ℕ) where
     pub held : log ≡ logOver old (states olds t (s .made) .log)
     pub placed : words ≡ laid (states olds t (s .made) .received) olds
 
+-- what it comes to, document 01's number of it, the log and the received words
 pub record DrivenLeft : Type 0 where
   pub driven : Driven
+  pub number : ℕ
   pub log : List ℕ
   pub words : List ℕ
 
 abbrev pub drivenLeft : Driven → List ℕ → List ℕ → DrivenLeft
-drivenLeft r log words = record { driven = r; log = log; words = words }
+drivenLeft r log words = record { driven = r; number = numberOf (r .ending); log = log; words = words }
 
 unfoldable pub drivenBy : List ℕ → List ℕ → State Transfer → DrivenLeft
 drivenBy old olds s =

@@ -45,7 +45,7 @@ fn run(call: Call, driver: Lpspi, budget: usize, script: &[u32], log: &mut [u32]
     requires room { ⌜ 2 * budget ≤ length (now log) ⌝ }
     ensures { λ r. ⌜ callLeft r (now (log .exit)) ≡ calledBy call (now (log .entry)) (callStates call driver (now (script .entry)) budget) ⌝ }
 {
-    let mut sequence = Sequence::start(driver);
+    let mut sequence = call.start(driver);
     let mut made: usize = 0;
     let mut used: usize = 0;
     let ending = loop {
@@ -70,7 +70,7 @@ fn run(call: Call, driver: Lpspi, budget: usize, script: &[u32], log: &mut [u32]
     }
 }
 
-// Number 5, or the run.
+// Number 5 with the driver value as it was, or the run.
 pub fn run_call(driver: Lpspi, call: Call, budget: usize, script: &[u32], log: &mut [u32]) -> Called
     ensures { λ r. ⌜ callLeft r (now (log .exit)) ≡ callRun driver call budget (now (script .entry)) (now (log .entry)) ⌝ }
 {

@@ -4,7 +4,7 @@ ghost use Prim.Native.Nat.{_+_, _*_, _<_, _≤_, min};
 ghost use lib.ListN.{length, getD};
 ghost use Rattle.machine.specs.Flush.{flushAccess};
 ghost use Rattle.runs.specs.Run.{codeOf, ended, endingOf, left, put};
-ghost use Rattle.runs.specs.Flush.{flushLoop, flushRun, flushLeft};
+ghost use Rattle.runs.specs.Flush.{flushStates, flushLoop, flushRun, flushLeft};
 use crate::log::limits;
 use crate::log::put;
 use crate::result::RunResult;
@@ -74,7 +74,7 @@ fn read(script: &[u32], log: &mut [u32], made: usize, at: u32) -> u32
 // One polling loop, an access a turn: it yields an error or Ok where the flush has ended, and Stopped where budget or script is used up.
 fn poll(budget: usize, script: &[u32], log: &mut [u32]) -> Flushed
     requires { ⌜ 2 * budget ≤ length (now log) ⌝ }
-    ensures { λ r. ⌜ flushLeft r (now (log .exit)) ≡ flushLoop (now (script .entry)) budget (now (log .entry)) ⌝ }
+    ensures { λ r. ⌜ (flushLeft r (now (log .exit)) ≡ flushLoop (now (script .entry)) budget (now (log .entry))) × (flushStates (now (script .entry)) budget .used ≡ r .accesses) ⌝ }
 {
     let end = least(budget, script.len());
     let mut flush = Flush::new();

@@ -9,8 +9,8 @@ use native.Mathlib.Nat.{mod-eq-of-lt, mul-le-mul-left, le-trans, div-lt-iff-lt-m
 use native.Mathlib.Omega.{arith}
 use Rattle.manual.specs.declared.Ccr.the-variants.{SCKDIV, DBT, PCSSCK, SCKPCS}
 use Rattle.manual.specs.declared.Field.the-variants.{Ccr}
-use Rattle.manual.specs.Manual.{readField}
-use Rattle.manual.proofs.ManualLaws.{Setting, read-all}
+use Rattle.manual.specs.Manual.{readField, Setting}
+use Rattle.manual.proofs.ManualLaws.{read-all}
 use Rattle.words.specs.declared.clock.ClockConfigs.{ClockConfigs}
 use borrow.Author.Tests.{ne-eqb}
 use Rattle.words.specs.Clock.{halfDivider, configsOf, clocked, clockWord, SckAtMost}

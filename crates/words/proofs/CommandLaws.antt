@@ -10,8 +10,8 @@ use mathlib.Core.List.{List, [], _∷_}
 use native.Mathlib.Nat.{mod-eq-of-lt}
 use Rattle.manual.specs.declared.Tcr.the-variants.{FRAMESZ, TXMSK, RXMSK, CONTC, CONT, BYSW, LSBF, PCS, CPHA, CPOL}
 use Rattle.manual.specs.declared.Field.the-variants.{Tcr}
-use Rattle.manual.specs.Manual.{readField, setField}
-use Rattle.manual.proofs.ManualLaws.{Setting, read-all}
+use Rattle.manual.specs.Manual.{readField, setField, Setting}
+use Rattle.manual.proofs.ManualLaws.{read-all}
 use Rattle.words.specs.declared.order.BitOrder.{BitOrder}
 use Rattle.words.specs.declared.order.BitOrder.the-variants.{Msb, Lsb}
 use Rattle.words.specs.declared.mode.Polarity.{Polarity}

@@ -1,7 +1,7 @@
 -- `read_data` meets its contract: its value comes with Ok.
 -- Assumes nothing.
 use mathlib.Core.Path.{refl}
-use Rattle.calls.specs.declared.results.Data.the-variants.{Empty}
+use mathlib.Core.List.{[]}
 use Rattle.calls.specs.Values.{dataIn}
 use Rattle.calls.proofs.EntryLaws.{has-value, has-none}
 use borrow.Author.Needs.{needs}
@@ -24,7 +24,7 @@ same-length : tie.Need-same-length
 same-length c = search needs
 
 returns : tie.Need-returns
-returns c = has-value (c .before .before .before .before .before .before .before .run-call .ensures) dataIn Empty (c .before .result .ensures) (c .before .before .before .before .is-ok .ensures) (c .before .before .before .if1 .taken) (c .data .ensures)
+returns c = has-value (c .before .before .before .before .before .before .before .run-call .ensures) dataIn [] (c .before .result .ensures) (c .before .before .before .before .is-ok .ensures) (c .before .before .before .if1 .taken) (c .data .ensures)
 
 result-requires-2 : tie.Need-result-requires-2
 result-requires-2 c κs = search needs
@@ -33,7 +33,7 @@ same-length-2 : tie.Need-same-length-2
 same-length-2 c = search needs
 
 returns-2 : tie.Need-returns-2
-returns-2 c = has-none (c .before .before .before .before .before .run-call .ensures) dataIn Empty (c .result2 .ensures) (c .before .before .is-ok .ensures) (c .before .if1 .left) refl
+returns-2 c = has-none (c .before .before .before .before .before .run-call .ensures) dataIn [] (c .result2 .ensures) (c .before .before .is-ok .ensures) (c .before .if1 .left) refl
 
 pub read-data-spec : {M : Type 1} → statement M
 read-data-spec =

@@ -8,7 +8,8 @@ use Rattle.machine.specs.declared.sequence.Move.{Move}
 use native.Mathlib.Omega.{arith}
 use lib.ListN.{List·getD-eq-default}
 use Rattle.machine.specs.declared.call.Call.the-variants.{SetClockConfigs}
-use Rattle.machine.specs.Call.{disabled, movesOf, moveAt}
+use Rattle.machine.specs.Sequence.{moveAt}
+use Rattle.machine.specs.Call.{disabled, movesOf}
 use Rattle.machine.specs.declared.sequence.Move.the-variants.{WaitClock, Write, End}
 use Rattle.machine.proofs.Lists.{within}
 use borrow.Author.Needs.{needs}

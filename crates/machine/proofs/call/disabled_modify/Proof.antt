@@ -7,7 +7,8 @@ use Rattle.machine.specs.declared.sequence.Move.{Move}
 use native.Mathlib.Omega.{arith}
 use lib.ListN.{List·getD-eq-default}
 use Rattle.machine.specs.declared.sequence.Move.the-variants.{Look, Wait, Modify, End}
-use Rattle.machine.specs.Call.{modify, disabled, moveAt}
+use Rattle.machine.specs.Sequence.{modify, moveAt}
+use Rattle.machine.specs.Call.{disabled}
 use Rattle.machine.proofs.Lists.{within}
 use borrow.Author.Needs.{needs}
 use Rattle.machine.proofs.call.disabled_modify.Statement.{statement}

@@ -4,14 +4,14 @@ use borrow.Author.Needs.{needs}
 use Rattle.machine.proofs.transfer.after_recovery.Statement.{statement}
 use Rattle.machine.proofs.transfer.after_recovery.Tie as tie
 
-recovered-requires : tie.Need-recovered-requires
-recovered-requires c κs = search needs
+is-recovered-requires : tie.Need-is-recovered-requires
+is-recovered-requires c κs = search needs
 
 returns : tie.Need-returns
-returns c = simp (← c .before .recovered .ensures, c .if1 .taken)
+returns c = simp (← c .before .is-recovered .ensures, c .if1 .taken)
 
 returns-2 : tie.Need-returns-2
-returns-2 c = simp (← c .before .recovered .ensures, c .if1 .left)
+returns-2 c = simp (← c .before .is-recovered .ensures, c .if1 .left)
 
 pub after-recovery-spec : {M : Type 1} → statement M
-after-recovery-spec = tie.close (tie.spec recovered-requires returns returns-2)
+after-recovery-spec = tie.close (tie.spec is-recovered-requires returns returns-2)

@@ -28,7 +28,7 @@ returns-2 : tie.Need-returns-2
 returns-2 c =
     let p = c .before .before .before .before in
     let a = p .before .before .before .before .before .args in
-    flush-result (a .driver) (a .script .now) (a .log .now) (a .budget) _ _ (sym (p .before .limits .ensures) ∙ p .if1 .left) (c .before .before .poll .ensures)
+    flush-result (a .driver) (a .script .now) (a .log .now) (a .budget) _ _ (sym (p .before .limits .ensures) ∙ p .if1 .left) (c .before .before .poll .ensures .0) (c .before .before .poll .ensures .1)
 
 pub flush-spec : {M : Type 1} → statement M
 flush-spec =

@@ -1,17 +1,20 @@
 -- `poll` meets its contract. The loop's invariant: after `made` accesses it holds what the run has after as many.
 -- Assumes nothing.
 use Prim.Native.Nat.{ℕ, _≤_, _-_}
-use mathlib.Core.Path.{_≡_, refl, sym, ap, _∙_}
+use mathlib.Core.Path.{_≡_, refl, sym, ap₂, _∙_}
 use native.Mathlib.Omega.{arith}
-use lib.ListN.{length, getD}
+use lib.ListN.{length}
+use Rattle.machine.specs.declared.flush.Flush.the-variants.{Status}
+use Rattle.machine.specs.Flush.{flushAccess, flushed}
 use Rattle.runs.specs.Run.{put}
-use Rattle.runs.proofs.FlushLaws.{At, at-start, at-next, loop-ended, loop-stopped}
+use Rattle.runs.proofs.LoopLaws.{at-start}
+use Rattle.runs.proofs.FlushLaws.{FlushAt, flush-next, loop-ended, loop-stopped}
 use borrow.Author.Needs.{needs}
 use Rattle.runs.proofs.flush.poll.Statement.{statement}
 use Rattle.runs.proofs.flush.poll.Tie as tie
 
 abbrev Inv-loop : tie.InvT-loop
-Inv-loop budget script log₀ end flush₀ made₀ log flush made = (made ≤ end) × (length log ≡ length log₀) × At script log₀ made flush log
+Inv-loop budget script log₀ end flush₀ made₀ log flush made = (made ≤ end) × (length log ≡ length log₀) × FlushAt script log₀ made flush log
 
 abbrev μ-loop : tie.MeasureT-loop
 μ-loop budget script log₀ end flush₀ made₀ log flush made = end - made
@@ -25,7 +28,7 @@ new-requires c κs = search needs
 loop-holds : tie.Need-loop-holds Inv-loop μ-loop
 loop-holds c =
     let a = c .before .before .before .before .args in
-    (omega arith, refl, rw (c .new .ensures) (at-start (a .script .now) (a .log .now)))
+    (omega arith, refl, rw (c .new .ensures) (at-start flushAccess flushed (a .script .now) (a .log .now) Status))
 
 has-ended-requires : tie.Need-has-ended-requires Inv-loop μ-loop
 has-ended-requires c κs = search needs
@@ -55,10 +58,10 @@ loop-again c =
     let a = p .before .before .before .before .before .args in
     let r = c .before .before .before .read in
     let e = sym (c .before .before .before .before .before .before .before .before .has-ended .ensures) ∙ c .before .before .before .before .before .before .before .if1 .left in
-    let logged = r .ensures .1 ∙ ap (λ (x : ℕ). put (l .log) (l .made) x (getD (a .script .now) (l .made) 0)) (c .before .before .before .before .offset-of .ensures) in (
+    let logged = r .ensures .1 ∙ ap₂ (λ (x y : ℕ). put (l .log) (l .made) x y) (c .before .before .before .before .offset-of .ensures) (sym (r .ensures .0)) in (
       omega arith,
       r .kept .1 .0 ∙ l .inv .1,
-      at-next (a .script .now) (a .log .now) (l .made) (l .flush) (l .log) (l .inv .2) (c .answered .result) (r .result) (r .last .1 .0) e (omega arith) (omega arith) (r .ensures .0) logged (c .answered .ensures),
+      flush-next (a .script .now) (a .log .now) (l .made) (l .flush) (c .answered .result) (r .result) (l .log) (r .last .1 .0) (l .inv .2) e (omega arith) (omega arith) (r .ensures .0) logged (c .answered .ensures),
     )
 
 same-length : tie.Need-same-length Inv-loop μ-loop

@@ -11,12 +11,12 @@ place-requires c κs = search needs
 due-requires : tie.Need-due-requires
 due-requires c κs = search needs
 
-moved-requires : tie.Need-moved-requires
-moved-requires c κs = search needs
+after-requires : tie.Need-after-requires
+after-requires c κs = search needs
 
 returns : tie.Need-returns
 unfolding callAfter
-returns c = simp (c .before .before .place .ensures, c .before .due .ensures, c .moved .ensures)
+returns c = simp (c .before .before .place .ensures, c .before .due .ensures, c .after .ensures)
 
 pub answered-spec : {M : Type 1} → statement M
-answered-spec = tie.close (tie.spec place-requires due-requires moved-requires returns)
+answered-spec = tie.close (tie.spec place-requires due-requires after-requires returns)

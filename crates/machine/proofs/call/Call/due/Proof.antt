@@ -6,7 +6,8 @@ use mathlib.Core.Path.{sym, ap, _∙_}
 use Rattle.manual.specs.declared.Register.the-variants.{SR, TCR}
 use Rattle.machine.specs.declared.call.Call.{Call}
 use Rattle.machine.specs.declared.sequence.Move.the-variants.{Write}
-use Rattle.machine.specs.Call.{movesOf, moveAt}
+use Rattle.machine.specs.Sequence.{moveAt}
+use Rattle.machine.specs.Call.{movesOf}
 use borrow.Author.Needs.{needs}
 use Rattle.machine.proofs.call.Call.due.Statement.{statement}
 use Rattle.machine.proofs.call.Call.due.Tie as tie
@@ -14,20 +15,20 @@ use Rattle.machine.proofs.call.Call.due.Tie as tie
 enum-told : tie.Need-enum-told
 enum-told c = search needs
 
-soft-reset-requires : tie.Need-soft-reset-requires
-soft-reset-requires c κs = search needs
+soft-reset-move-requires : tie.Need-soft-reset-move-requires
+soft-reset-move-requires c κs = search needs
 
 enum-told-2 : tie.Need-enum-told-2
 enum-told-2 c = search needs
 
-recover-from-error-requires : tie.Need-recover-from-error-requires
-recover-from-error-requires c κs = search needs
+recover-move-requires : tie.Need-recover-move-requires
+recover-move-requires c κs = search needs
 
 enum-told-3 : tie.Need-enum-told-3
 enum-told-3 c = search needs
 
-init-requires : tie.Need-init-requires
-init-requires c κs = search needs
+init-move-requires : tie.Need-init-move-requires
+init-move-requires c κs = search needs
 
 enum-told-4 : tie.Need-enum-told-4
 enum-told-4 c = search needs
@@ -126,13 +127,13 @@ disabled-polarity-requires : tie.Need-disabled-polarity-requires
 disabled-polarity-requires c κs = search needs
 
 returns : tie.Need-returns
-returns c = simp (c .before .enum-told .given .1, c .soft-reset .ensures)
+returns c = simp (c .before .enum-told .given .1, c .soft-reset-move .ensures)
 
 returns-2 : tie.Need-returns-2
-returns-2 c = simp (c .before .enum-told2 .given .1, c .recover-from-error .ensures)
+returns-2 c = simp (c .before .enum-told2 .given .1, c .recover-move .ensures)
 
 returns-3 : tie.Need-returns-3
-returns-3 c = simp (c .before .enum-told3 .given .1, c .init .ensures)
+returns-3 c = simp (c .before .enum-told3 .given .1, c .init-move .ensures)
 
 returns-4 : tie.Need-returns-4
 returns-4 c = simp (c .before .enum-told4 .given .1, c .one .ensures)
@@ -184,11 +185,11 @@ due-spec =
     tie.close
     (tie.spec
     enum-told
-    soft-reset-requires
+    soft-reset-move-requires
     enum-told-2
-    recover-from-error-requires
+    recover-move-requires
     enum-told-3
-    init-requires
+    init-move-requires
     enum-told-4
     one-requires
     enum-known-self

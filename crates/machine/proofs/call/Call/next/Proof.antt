@@ -5,12 +5,12 @@ use borrow.Author.Needs.{needs}
 use Rattle.machine.proofs.call.Call.next.Statement.{statement}
 use Rattle.machine.proofs.call.Call.next.Tie as tie
 
-refused-requires : tie.Need-refused-requires
-refused-requires c κs = search needs
+oversize-requires : tie.Need-oversize-requires
+oversize-requires c κs = search needs
 
 returns : tie.Need-returns
 unfolding callAccess
-returns c = simp (← c .before .refused .ensures, c .if1 .taken)
+returns c = simp (← c .before .oversize .ensures, c .if1 .taken)
 
 place-requires : tie.Need-place-requires
 place-requires c κs = search needs
@@ -23,9 +23,9 @@ access-requires c κs = search needs
 
 returns-2 : tie.Need-returns-2
 unfolding callAccess
-returns-2 c = simp (← c .before .before .before .before .refused .ensures, c .before .before .before .if1 .left, c .before .before .place .ensures, c .before .due .ensures, c .access .ensures)
+returns-2 c = simp (← c .before .before .before .before .oversize .ensures, c .before .before .before .if1 .left, c .before .before .place .ensures, c .before .due .ensures, c .access .ensures)
 
 pub next-spec : {M : Type 1} → statement M
 next-spec =
     tie.close
-    (tie.spec refused-requires returns place-requires due-requires access-requires returns-2)
+    (tie.spec oversize-requires returns place-requires due-requires access-requires returns-2)

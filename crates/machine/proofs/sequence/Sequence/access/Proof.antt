@@ -31,8 +31,8 @@ enum-known-due-3 c = search needs
 register-requires : tie.Need-register-requires
 register-requires c κs = search needs
 
-changed-requires : tie.Need-changed-requires
-changed-requires c κs = search needs
+apply-requires : tie.Need-apply-requires
+apply-requires c κs = search needs
 
 enum-known-due-4 : tie.Need-enum-known-due-4
 enum-known-due-4 c = search needs
@@ -40,8 +40,8 @@ enum-known-due-4 c = search needs
 register-requires-2 : tie.Need-register-requires-2
 register-requires-2 c κs = search needs
 
-changed-requires-2 : tie.Need-changed-requires-2
-changed-requires-2 c κs = search needs
+apply-requires-2 : tie.Need-apply-requires-2
+apply-requires-2 c κs = search needs
 
 enum-known-due-5 : tie.Need-enum-known-due-5
 enum-known-due-5 c = search needs
@@ -77,10 +77,10 @@ returns-7 : tie.Need-returns-7
 returns-7 c = simp (c .enum-told5 .given .1)
 
 returns-8 : tie.Need-returns-8
-returns-8 c = simp (c .before .before .before .due3 .given .1, c .before .register .ensures, c .changed .ensures)
+returns-8 c = simp (c .before .before .before .due3 .given .1, c .before .register .ensures, c .apply .ensures)
 
 returns-9 : tie.Need-returns-9
-returns-9 c = simp (c .before .before .before .due4 .given .1, c .before .register2 .ensures, c .changed2 .ensures)
+returns-9 c = simp (c .before .before .before .due4 .given .1, c .before .register2 .ensures, c .apply2 .ensures)
 
 returns-10 : tie.Need-returns-10
 returns-10 c = simp (c .before .due5 .given .1)
@@ -104,10 +104,10 @@ access-spec =
     enum-told-5
     enum-known-due-3
     register-requires
-    changed-requires
+    apply-requires
     enum-known-due-4
     register-requires-2
-    changed-requires-2
+    apply-requires-2
     enum-known-due-5
     enum-known-due-6
     kept-requires

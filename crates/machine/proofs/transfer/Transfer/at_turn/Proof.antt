@@ -7,11 +7,11 @@ use Rattle.machine.proofs.transfer.Transfer.at_turn.Tie as tie
 turn-requires : tie.Need-turn-requires
 turn-requires c κs = search needs
 
-moved-requires : tie.Need-moved-requires
-moved-requires c κs = search needs
+standing-requires : tie.Need-standing-requires
+standing-requires c κs = search needs
 
 returns : tie.Need-returns
-returns c = simp (c .moved .ensures, c .before .turn .ensures)
+returns c = simp (c .standing .ensures, c .before .turn .ensures)
 
 pub at-turn-spec : {M : Type 1} → statement M
-at-turn-spec = tie.close (tie.spec turn-requires moved-requires returns)
+at-turn-spec = tie.close (tie.spec turn-requires standing-requires returns)

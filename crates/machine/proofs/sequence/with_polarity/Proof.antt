@@ -1,8 +1,8 @@
--- `polarized` meets its contract.
+-- `with_polarity` meets its contract.
 -- Assumes nothing.
 use borrow.Author.Needs.{needs}
-use Rattle.machine.proofs.sequence.polarized.Statement.{statement}
-use Rattle.machine.proofs.sequence.polarized.Tie as tie
+use Rattle.machine.proofs.sequence.with_polarity.Statement.{statement}
+use Rattle.machine.proofs.sequence.with_polarity.Tie as tie
 
 pcs-number-requires : tie.Need-pcs-number-requires
 pcs-number-requires c κs = search needs
@@ -16,5 +16,5 @@ set-bit-requires c κs = search needs
 returns : tie.Need-returns
 returns c = simp (c .set-bit .ensures, c .before .pcspol .ensures, c .before .before .pcs-number .ensures .0)
 
-pub polarized-spec : {M : Type 1} → statement M
-polarized-spec = tie.close (tie.spec pcs-number-requires pcspol-requires set-bit-requires returns)
+pub with-polarity-spec : {M : Type 1} → statement M
+with-polarity-spec = tie.close (tie.spec pcs-number-requires pcspol-requires set-bit-requires returns)

@@ -1,8 +1,8 @@
--- `Sequence::changed` meets its contract: each branch is the definition's.
+-- `Sequence::apply` meets its contract: each branch is the definition's.
 -- Assumes nothing.
 use borrow.Author.Needs.{needs}
-use Rattle.machine.proofs.sequence.Sequence.changed.Statement.{statement}
-use Rattle.machine.proofs.sequence.Sequence.changed.Tie as tie
+use Rattle.machine.proofs.sequence.Sequence.apply.Statement.{statement}
+use Rattle.machine.proofs.sequence.Sequence.apply.Tie as tie
 
 enum-told : tie.Need-enum-told
 enum-told c = search needs
@@ -127,8 +127,8 @@ kept-requires-4 c κs = search needs
 read-requires-2 : tie.Need-read-requires-2
 read-requires-2 c κs = search needs
 
-polarized-requires : tie.Need-polarized-requires
-polarized-requires c κs = search needs
+with-polarity-requires : tie.Need-with-polarity-requires
+with-polarity-requires c κs = search needs
 
 set-requires-16 : tie.Need-set-requires-16
 set-requires-16 c κs = search needs
@@ -167,10 +167,10 @@ returns-11 : tie.Need-returns-11
 returns-11 c = simp (c .before .before .before .change5 .given .1, c .before .flag2 .ensures, c .set15 .ensures)
 
 returns-12 : tie.Need-returns-12
-returns-12 c = simp (c .before .before .before .before .before .change6 .given .1, c .before .before .before .kept4 .ensures, c .before .before .read2 .ensures, c .before .polarized .ensures, c .set16 .ensures)
+returns-12 c = simp (c .before .before .before .before .before .change6 .given .1, c .before .before .before .kept4 .ensures, c .before .before .read2 .ensures, c .before .with-polarity .ensures, c .set16 .ensures)
 
-pub changed-spec : {M : Type 1} → statement M
-changed-spec =
+pub apply-spec : {M : Type 1} → statement M
+apply-spec =
     tie.close
     (tie.spec
     enum-told
@@ -214,7 +214,7 @@ changed-spec =
     enum-known-change-6
     kept-requires-4
     read-requires-2
-    polarized-requires
+    with-polarity-requires
     set-requires-16
     returns
     returns-2

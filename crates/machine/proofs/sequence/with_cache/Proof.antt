@@ -1,8 +1,8 @@
--- `cached` meets its contract.
+-- `with_cache` meets its contract.
 -- Assumes nothing.
 use borrow.Author.Needs.{needs}
-use Rattle.machine.proofs.sequence.cached.Statement.{statement}
-use Rattle.machine.proofs.sequence.cached.Tie as tie
+use Rattle.machine.proofs.sequence.with_cache.Statement.{statement}
+use Rattle.machine.proofs.sequence.with_cache.Tie as tie
 
 cast-set : tie.Need-cast-set
 cast-set c = search needs
@@ -19,5 +19,5 @@ set-requires-2 c κs = search needs
 returns : tie.Need-returns
 returns c = simp (c .set2 .ensures, c .before .set .ensures)
 
-pub cached-spec : {M : Type 1} → statement M
-cached-spec = tie.close (tie.spec cast-set cast-set-2 set-requires set-requires-2 returns)
+pub with-cache-spec : {M : Type 1} → statement M
+with-cache-spec = tie.close (tie.spec cast-set cast-set-2 set-requires set-requires-2 returns)

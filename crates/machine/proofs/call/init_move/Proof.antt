@@ -1,4 +1,4 @@
--- `init` meets its contract: its table.
+-- `init_move` meets its contract: its table.
 -- Assumes nothing.
 use mathlib.Core.Path.{sym}
 use native.Mathlib.Omega.{arith}
@@ -7,8 +7,8 @@ use Rattle.machine.specs.Call.{init}
 use Rattle.machine.specs.declared.sequence.Move.the-variants.{End}
 use Rattle.machine.proofs.Lists.{within}
 use borrow.Author.Needs.{needs}
-use Rattle.machine.proofs.call.init.Statement.{statement}
-use Rattle.machine.proofs.call.init.Tie as tie
+use Rattle.machine.proofs.call.init_move.Statement.{statement}
+use Rattle.machine.proofs.call.init_move.Tie as tie
 
 mul-result : tie.Need-mul-result
 mul-result c = search needs
@@ -22,5 +22,5 @@ returns c = within (init) (c .before .before .args .place) _ End (omega arith)
 returns-2 : tie.Need-returns-2
 returns-2 c = sym (List·getD-eq-default (init) End {n = c .before .args .place} (c .if1 .left))
 
-pub init-spec : {M : Type 1} → statement M
-init-spec = tie.close (tie.spec mul-result array-copy-out-result returns returns-2)
+pub init-move-spec : {M : Type 1} → statement M
+init-move-spec = tie.close (tie.spec mul-result array-copy-out-result returns returns-2)

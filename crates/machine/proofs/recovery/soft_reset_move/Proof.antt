@@ -1,4 +1,4 @@
--- `soft_reset` meets its contract: the table of the recovery without its last move.
+-- `soft_reset_move` meets its contract: the table of the recovery without its last move.
 -- Assumes nothing.
 use mathlib.Core.Path.{sym, _∙_}
 use native.Mathlib.Omega.{arith}
@@ -8,8 +8,8 @@ use Rattle.machine.specs.Recovery.{softReset, recovery, clearStatus}
 use Rattle.machine.specs.Status.{errors}
 use Rattle.machine.proofs.Lists.{within}
 use borrow.Author.Needs.{needs}
-use Rattle.machine.proofs.recovery.soft_reset.Statement.{statement}
-use Rattle.machine.proofs.recovery.soft_reset.Tie as tie
+use Rattle.machine.proofs.recovery.soft_reset_move.Statement.{statement}
+use Rattle.machine.proofs.recovery.soft_reset_move.Tie as tie
 
 mul-result : tie.Need-mul-result
 mul-result c = search needs
@@ -23,5 +23,5 @@ returns c = within recovery (c .before .before .args .place) _ End (omega arith)
 returns-2 : tie.Need-returns-2
 returns-2 c = sym (List·getD-eq-default softReset End {n = c .before .args .place} (c .if1 .left))
 
-pub soft-reset-spec : {M : Type 1} → statement M
-soft-reset-spec = tie.close (tie.spec mul-result array-copy-out-result returns returns-2)
+pub soft-reset-move-spec : {M : Type 1} → statement M
+soft-reset-move-spec = tie.close (tie.spec mul-result array-copy-out-result returns returns-2)

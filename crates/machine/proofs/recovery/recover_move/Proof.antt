@@ -1,4 +1,4 @@
--- `recover_from_error` meets its contract: its table.
+-- `recover_move` meets its contract: its table.
 -- Assumes nothing.
 use mathlib.Core.Path.{sym}
 use native.Mathlib.Omega.{arith}
@@ -7,8 +7,8 @@ use Rattle.machine.specs.declared.sequence.Move.the-variants.{End}
 use Rattle.machine.specs.Recovery.{recovery}
 use Rattle.machine.proofs.Lists.{within}
 use borrow.Author.Needs.{needs}
-use Rattle.machine.proofs.recovery.recover_from_error.Statement.{statement}
-use Rattle.machine.proofs.recovery.recover_from_error.Tie as tie
+use Rattle.machine.proofs.recovery.recover_move.Statement.{statement}
+use Rattle.machine.proofs.recovery.recover_move.Tie as tie
 
 mul-result : tie.Need-mul-result
 mul-result c = search needs
@@ -22,5 +22,5 @@ returns c = within recovery (c .before .before .args .place) _ End (omega arith)
 returns-2 : tie.Need-returns-2
 returns-2 c = sym (List·getD-eq-default recovery End {n = c .before .args .place} (c .if1 .left))
 
-pub recover-from-error-spec : {M : Type 1} → statement M
-recover-from-error-spec = tie.close (tie.spec mul-result array-copy-out-result returns returns-2)
+pub recover-move-spec : {M : Type 1} → statement M
+recover-move-spec = tie.close (tie.spec mul-result array-copy-out-result returns returns-2)
