@@ -40,6 +40,12 @@ impl Lpspi {
         self.order
     }
 
+    pub fn mode(self) -> Mode
+        ensures { λ r. ⌜ r ≡ self .mode ⌝ }
+    {
+        self.mode
+    }
+
     pub fn pcs(self) -> Pcs
         ensures { λ r. ⌜ r ≡ self .pcs ⌝ }
     {
@@ -95,7 +101,7 @@ impl Lpspi {
     }
 
     // The driver once its cache has this clock.
-    pub(crate) fn with_clock(self, clock: ClockConfigs) -> Self
+    pub fn with_clock(self, clock: ClockConfigs) -> Self
         ensures { λ r. ⌜ r ≡ withClock clock self ⌝ }
     {
         let order = self.order;
