@@ -43,6 +43,7 @@ extern "C" {
     );
 
     pub fn lpspi_flush(
+        driver: *mut u32,
         budget: usize,
         script: *const u32,
         script_len: usize,
@@ -51,18 +52,75 @@ extern "C" {
         accesses: *mut usize,
         answers: *mut usize,
     ) -> u32;
+
+    #[allow(clippy::too_many_arguments)]
+    pub fn lpspi_reset(
+        kind: u32,
+        driver: *mut u32,
+        budget: usize,
+        script: *const u32,
+        script_len: usize,
+        log: *mut u32,
+        log_len: usize,
+        accesses: *mut usize,
+        answers: *mut usize,
+    ) -> u32;
+
+    #[allow(clippy::too_many_arguments)]
+    pub fn lpspi_set(
+        kind: u32,
+        a: u32,
+        driver: *mut u32,
+        budget: usize,
+        script: *const u32,
+        script_len: usize,
+        log: *mut u32,
+        log_len: usize,
+        accesses: *mut usize,
+        answers: *mut usize,
+    ) -> u32;
+
+    #[allow(clippy::too_many_arguments)]
+    pub fn lpspi_disabled(
+        kind: u32,
+        a: u32,
+        b: u32,
+        driver: *mut u32,
+        budget: usize,
+        script: *const u32,
+        script_len: usize,
+        log: *mut u32,
+        log_len: usize,
+        accesses: *mut usize,
+        answers: *mut usize,
+    ) -> u32;
+
+    #[allow(clippy::too_many_arguments)]
+    pub fn lpspi_get(
+        kind: u32,
+        a: u32,
+        b: u32,
+        driver: *mut u32,
+        budget: usize,
+        script: *const u32,
+        script_len: usize,
+        log: *mut u32,
+        log_len: usize,
+        accesses: *mut usize,
+        answers: *mut usize,
+        value: *mut u64,
+    ) -> u32;
 }
 
-/// The exchange of two buffers of one element type.
-macro_rules! exchange_separate {
+/// The transfers of buffers of one element type.
+macro_rules! transfers {
     ($($function:ident of $element:ty;)*) => {
         extern "C" {
             $(
                 #[allow(clippy::too_many_arguments)]
                 fn $function(
-                    lsb: bool,
-                    mode: u32,
-                    pcs: u32,
+                    kind: u32,
+                    driver: *mut u32,
                     read: *mut $element,
                     read_len: usize,
                     write: *const $element,
@@ -79,16 +137,15 @@ macro_rules! exchange_separate {
         }
         $(
             impl Exported for $element {
-                const EXCHANGE_SEPARATE: ExchangeSeparate<Self> = $function;
+                const TRANSFER: Transfer<Self> = $function;
             }
         )*
     };
 }
 
-pub type ExchangeSeparate<W> = unsafe extern "C" fn(
-    bool,
+pub type Transfer<W> = unsafe extern "C" fn(
     u32,
-    u32,
+    *mut u32,
     *mut W,
     usize,
     *const W,
@@ -102,12 +159,13 @@ pub type ExchangeSeparate<W> = unsafe extern "C" fn(
     *mut usize,
 ) -> u32;
 
-/// The functions of an element type.
+/// The function of an element type.
 pub trait Exported: Copy {
-    const EXCHANGE_SEPARATE: ExchangeSeparate<Self>;
+    const TRANSFER: Transfer<Self>;
 }
 
-exchange_separate! {
-    lpspi_exchange_separate_u8 of u8;
-    lpspi_exchange_separate_u32 of u32;
+transfers! {
+    lpspi_transfer_u8 of u8;
+    lpspi_transfer_u16 of u16;
+    lpspi_transfer_u32 of u32;
 }

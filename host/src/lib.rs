@@ -2,16 +2,38 @@
 //! runs.
 //!
 //! The core is the static library `libc_api.a`; see `build.rs`.
+//!
+//! A run is a call of the driver over a script of answers, with budget and log.
+//! A read takes the next answer of the script. The log has two words for each
+//! access: the register's offset, plus 0x1000 for a write, and the value. It
+//! must have room for the whole budget; places past the accesses made are kept.
 #![warn(missing_docs)]
 
+mod calls;
+mod disabled;
+mod driver;
 mod ffi;
 pub mod original_runs;
 pub mod original_shape;
 pub mod raw;
 pub mod reference;
-mod run;
+mod transfers;
+mod values;
 
-pub use run::{exchange_separate, flush, Driver, Element, Run};
+pub use calls::{
+    clear_fifo, clear_status, enqueue_data, enqueue_transaction, init, recover_from_error,
+    set_enable, soft_reset,
+};
+pub use disabled::{
+    set_chip_select_polarity, set_clock_configs, set_clock_hz, set_peripheral_enable,
+    set_sample_point, PcsPolarity, SamplePoint,
+};
+pub use driver::{Driver, Run};
+pub use transfers::{exchange, exchange_separate, flush, read_no_write, write_no_read, Element};
+pub use values::{
+    fifo_status, is_enabled, read_data, set_watermark, status, watermark, FifoStatus,
+};
+
 use std::fmt;
 
 /// Order of the elements in a FIFO word, and of the bits on the wire.
@@ -82,6 +104,8 @@ pub enum Error {
     Limits,
     /// The source clock or the wanted clock is 0.
     ZeroClock,
+    /// PARAM gives a FIFO size of 2^5 words or more.
+    FifoExponent,
     /// More elements than a FIFO word holds.
     TooManyElements,
 }
@@ -96,6 +120,7 @@ impl Error {
             Self::Stopped => 4,
             Self::Limits => 5,
             Self::ZeroClock => 6,
+            Self::FifoExponent => 7,
             Self::TooManyElements => 8,
         }
     }
@@ -110,6 +135,7 @@ impl fmt::Display for Error {
             Self::Stopped => "budget or script used up",
             Self::Limits => "budget or log out of limits",
             Self::ZeroClock => "a clock is zero",
+            Self::FifoExponent => "FIFO exponent over 4",
             Self::TooManyElements => "more elements than a word holds",
         })
     }
@@ -130,8 +156,9 @@ fn answer<T>(number: u32, value: T) -> Result<T, Error> {
         4 => Err(Error::Stopped),
         5 => Err(Error::Limits),
         6 => Err(Error::ZeroClock),
+        7 => Err(Error::FifoExponent),
         8 => Err(Error::TooManyElements),
-        _ => panic!("result number {number} is not one of 0 to 6 and 8"),
+        _ => panic!("result number {number} is not one of 0 to 8"),
     }
 }
 

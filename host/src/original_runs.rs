@@ -150,11 +150,19 @@ async fn try_join<E>(
     .await
 }
 
-/// The driver. Its clock cache, DBT and SCKDIV, is 0.
+/// The fields of CCR that do not read back.
+#[derive(Clone, Copy)]
+struct CcrCache {
+    dbt: u8,
+    sckdiv: u8,
+}
+
+/// The driver.
 struct Lpspi<'a> {
     lpspi: Registers<'a>,
     bit_order: BitOrder,
     mode: Mode,
+    ccr_cache: CcrCache,
     pcs: Pcs,
 }
 
@@ -314,9 +322,9 @@ impl Lpspi<'_> {
             at::CCR,
             at::FCR,
         ];
+        let CcrCache { dbt, sckdiv } = self.ccr_cache;
         let kept = KEPT.map(|register| match (register, self.lpspi.read(register)) {
-            // DBT and SCKDIV come from the cache.
-            (at::CCR, ccr) => ccr & 0xFFFF_0000,
+            (at::CCR, ccr) => ccr & 0xFFFF_0000 | u32::from(dbt) << 8 | u32::from(sckdiv),
             (_, value) => value,
         });
         let enabled = self.is_enabled();
@@ -340,7 +348,8 @@ impl Lpspi<'_> {
     }
 }
 
-/// Gives a call its registers, within the limits of a run.
+/// Gives a call its registers, within the limits of a run. None of these calls
+/// changes the driver.
 #[inline(always)]
 fn run(
     driver: Driver,
@@ -349,11 +358,17 @@ fn run(
     log: &mut [u32],
     call: impl FnOnce(&mut Lpspi) -> Result<(), Error>,
 ) -> Run {
+    let driver = Driver {
+        mode: driver.mode % 4,
+        pcs: driver.pcs % 4,
+        ..driver
+    };
     if budget > 8_000 || log.len() < 2 * budget {
         return Run {
             result: Err(Error::Limits),
             accesses: 0,
             answers: 0,
+            driver,
         };
     }
     let (places, _) = log[..2 * budget].as_chunks_mut();
@@ -367,13 +382,17 @@ fn run(
         },
         bit_order: driver.bit_order,
         mode: Mode {
-            polarity: [Polarity::IdleLow, Polarity::IdleHigh][driver.mode as usize / 2 % 2],
+            polarity: [Polarity::IdleLow, Polarity::IdleHigh][driver.mode as usize / 2],
             phase: [
                 Phase::CaptureOnFirstTransition,
                 Phase::CaptureOnSecondTransition,
             ][driver.mode as usize % 2],
         },
-        pcs: [Pcs::Pcs0, Pcs::Pcs1, Pcs::Pcs2, Pcs::Pcs3][driver.pcs as usize % 4],
+        ccr_cache: CcrCache {
+            dbt: driver.dbt,
+            sckdiv: driver.sckdiv,
+        },
+        pcs: [Pcs::Pcs0, Pcs::Pcs1, Pcs::Pcs2, Pcs::Pcs3][driver.pcs as usize],
     };
     let result = call(&mut lpspi);
     let registers = lpspi.lpspi;
@@ -385,6 +404,7 @@ fn run(
         },
         accesses: registers.accesses.get(),
         answers: registers.answers.get(),
+        driver,
     }
 }
 
@@ -405,8 +425,6 @@ pub fn exchange_separate<W: Word>(
 
 /// Entry: [`flush`](crate::flush).
 #[inline(never)]
-pub fn flush(budget: usize, script: &[u32], log: &mut [u32]) -> Run {
-    run(Driver::default(), budget, script, log, |lpspi| {
-        lpspi.flush()
-    })
+pub fn flush(driver: Driver, budget: usize, script: &[u32], log: &mut [u32]) -> Run {
+    run(driver, budget, script, log, |lpspi| lpspi.flush())
 }

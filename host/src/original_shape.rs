@@ -50,6 +50,39 @@ impl Word for u8 {
     }
 }
 
+impl Word for u16 {
+    const DUMMY: u16 = u16::MAX;
+
+    fn pack_word(order: BitOrder, mut provider: impl FnMut() -> Option<Self>) -> u32 {
+        let mut packed = 0u32;
+        if order.is_lsb() {
+            for place in 0..2 {
+                if let Some(elem) = provider() {
+                    packed |= u32::from(elem) << (16 * place);
+                }
+            }
+        } else {
+            for _ in 0..2 {
+                if let Some(elem) = provider() {
+                    packed = (packed << 16) | u32::from(elem);
+                }
+            }
+        }
+        packed
+    }
+
+    fn unpack_word(word: u32, order: BitOrder, valid_bytes: usize, mut sink: impl FnMut(Self)) {
+        let mut shifts = [0usize, 16];
+        let used = &mut shifts[..valid_bytes / 2];
+        if !order.is_lsb() {
+            used.reverse();
+        }
+        for shift in used {
+            sink((word >> *shift) as u16);
+        }
+    }
+}
+
 impl Word for u32 {
     const DUMMY: u32 = u32::MAX;
 

@@ -1,10 +1,20 @@
 //! Safe calls that keep the C form: a result number and out-values.
 //!
 //! The number is 0 for Ok, else that of an [`Error`](crate::Error). On a
-//! refusal an out-word is as found, which the tests check here. A run always
-//! gives its accesses and answers.
+//! refusal an out-word is as found, which the tests check here.
+//!
+//! A run takes the driver as a number, see [`Driver::number`], and always gives
+//! the next driver value, its accesses and answers, and its value if it has one.
+//! `kind` says which call it is, modulo the number of calls; `a` and `b` are the
+//! call's parameters. For a parameter of two values even is the first, odd the
+//! second.
+//!
+//! [`Driver::number`]: crate::Driver::number
 
-use crate::{ffi, BitOrder, Command, Driver, Element};
+mod runs;
+
+use crate::{ffi, BitOrder, Command};
+pub use runs::{disabled, flush, get, reset, set, transfer};
 
 /// The TCR word of a command.
 #[inline]
@@ -75,65 +85,6 @@ pub fn unpack_words_u8(order: BitOrder, words: &[u32], total: usize, bytes: &mut
             total,
             bytes.as_mut_ptr(),
             bytes.len(),
-        )
-    }
-}
-
-/// Sends `write` and receives into `read`.
-#[inline]
-#[allow(clippy::too_many_arguments)]
-pub fn exchange_separate<W: Element>(
-    driver: Driver,
-    read: &mut [W],
-    write: &[W],
-    budget: usize,
-    script: &[u32],
-    log: &mut [u32],
-    accesses: &mut usize,
-    answers: &mut usize,
-) -> u32 {
-    // Safety: all slices are valid for their lengths, and neither they nor the
-    // two counts overlap.
-    unsafe {
-        W::EXCHANGE_SEPARATE(
-            driver.bit_order.is_lsb(),
-            driver.mode,
-            driver.pcs,
-            read.as_mut_ptr(),
-            read.len(),
-            write.as_ptr(),
-            write.len(),
-            budget,
-            script.as_ptr(),
-            script.len(),
-            log.as_mut_ptr(),
-            log.len(),
-            accesses,
-            answers,
-        )
-    }
-}
-
-/// Waits until all has been sent.
-#[inline]
-pub fn flush(
-    budget: usize,
-    script: &[u32],
-    log: &mut [u32],
-    accesses: &mut usize,
-    answers: &mut usize,
-) -> u32 {
-    // Safety: both slices are valid for their lengths, and neither they nor the
-    // two counts overlap.
-    unsafe {
-        ffi::lpspi_flush(
-            budget,
-            script.as_ptr(),
-            script.len(),
-            log.as_mut_ptr(),
-            log.len(),
-            accesses,
-            answers,
         )
     }
 }

@@ -24,6 +24,7 @@ fn error_numbers() {
     assert_eq!(Error::Stopped.number(), 4);
     assert_eq!(Error::Limits.number(), 5);
     assert_eq!(Error::ZeroClock.number(), 6);
+    assert_eq!(Error::FifoExponent.number(), 7);
     assert_eq!(Error::TooManyElements.number(), 8);
 }
 

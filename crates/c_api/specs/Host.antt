@@ -12,8 +12,6 @@ use Rattle.words.specs.declared.mode.Phase.the-variants.{CaptureOnFirstTransiti
 use Rattle.words.specs.declared.mode.Mode.{Mode}
 use Rattle.words.specs.declared.mode.Pcs.{Pcs}
 use Rattle.words.specs.declared.mode.Pcs.the-variants.{Pcs0, Pcs1, Pcs2, Pcs3}
-use Rattle.machine.specs.declared.driver.Lpspi.{Lpspi}
-use Rattle.machine.specs.Driver.{startDriver, withOrder, withMode, withPcs}
 use Rattle.words.specs.Answer.{Answer}
 use Rattle.words.specs.Clock.{clocked, clockWord}
 use Rattle.words.specs.Command.{Settings}
@@ -34,10 +32,6 @@ modeFrom mode = record { polarity = polarityFrom mode; phase = phaseFrom mode }
 -- the chip select's number; bits above the lowest two do not count
 abbrev pub pcsFrom : ℕ → Pcs
 pcsFrom pcs = cond (eqb (pcs % 4) 0) Pcs0 (cond (eqb (pcs % 4) 1) Pcs1 (cond (eqb (pcs % 4) 2) Pcs2 Pcs3))
-
--- a driver value; its cache is 0
-abbrev pub driverFrom : Bool → ℕ → ℕ → Lpspi
-driverFrom lsb mode pcs = withPcs (pcsFrom pcs) (withMode (modeFrom mode) (withOrder (orderFrom lsb) startDriver))
 
 abbrev pub settingsFrom : Bool → Bool → Bool → Bool → Bool → Bool → ℕ → ℕ → Settings
 settingsFrom swap lsb receive transmit continuous continuing mode pcs = record {

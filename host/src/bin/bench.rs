@@ -258,12 +258,18 @@ fn exchange_words(words: &[u32]) {
 }
 
 fn flush_busy(reads: usize) {
-    compare_runs::<u8>(
+    let call = |side: fn(Driver, usize, &[u32], &mut [u32]) -> Run| {
+        move |_: &mut [u8], script: &[u32], log: &mut [u32]| {
+            let (driver, budget) = black_box((Driver::default(), BUDGET));
+            side(driver, budget, script, log)
+        }
+    };
+    compare_runs(
         &format!("flush, {reads} busy reads, stopped"),
         0,
         &vec![1 << 24; reads],
-        &|_, script, log| original_runs::flush(black_box(BUDGET), script, log),
-        &|_, script, log| flush(black_box(BUDGET), script, log),
+        &call(original_runs::flush),
+        &call(flush),
     );
 }
 

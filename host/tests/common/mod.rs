@@ -3,6 +3,8 @@
 // Each test file uses only a part.
 #![allow(dead_code)]
 
+pub mod compare;
+
 use lpspi_host::{BitOrder, Command};
 use std::sync::OnceLock;
 use std::time::{SystemTime, UNIX_EPOCH};

@@ -1,0 +1,53 @@
+-- Runs for a host: the transfer of a number, and what a run leaves.
+-- Assumes nothing.
+use Prim.Native.Nat.{ℕ, _%_}
+use mathlib.Core.Bool.{true, false}
+use mathlib.Core.List.{List, []}
+use mathlib.Core.Path.{_≡_, ap, ap₂, _∙_}
+use lib.Dec.{eqb}
+use Rattle.machine.specs.declared.driver.Lpspi.{Lpspi}
+use Rattle.machine.specs.Access.{numberOf}
+use Rattle.runs.specs.declared.result.RunResult.{RunResult}
+use Rattle.runs.specs.Run.{Left, left}
+use Rattle.transfers.specs.Transfers.{TransferLeft, transferLeft, exchangeSeparate, exchange, writeNoRead, readNoWrite}
+use Rattle.words.specs.declared.transaction.Transaction.{Transaction}
+use Rattle.calls.specs.Calls.{Answered, valueLeft}
+use Rattle.c_api.specs.HostCall.{transactionOf, numbered, hostValue, ofAnswered}
+use Rattle.c_api.specs.HostRun.{driverNumber, hostLeft, ofTransfer, ofCall, transferBy}
+
+-- by the transfer's number
+module _ (kind k : ℕ) (d : Lpspi) (read write : List ℕ) (budget : ℕ) (script log : List ℕ) where
+  pub by-separate : {x : TransferLeft} → eqb (kind % 4) 0 ≡ true → x ≡ exchangeSeparate k d read write budget script log → x ≡ transferBy kind k d read write budget script log
+  by-separate t e = rw t e
+
+  pub by-in-place : {x : TransferLeft} → eqb (kind % 4) 0 ≡ false → eqb (kind % 4) 1 ≡ true → x ≡ exchange k d read budget script log → x ≡ transferBy kind k d read write budget script log
+  by-in-place s t e = rw (s, t) e
+
+  pub by-write : {r : RunResult} {log′ : List ℕ} → eqb (kind % 4) 0 ≡ false → eqb (kind % 4) 1 ≡ false → eqb (kind % 4) 2 ≡ true
+      → transferLeft r log′ [] ≡ writeNoRead k d write budget script log → transferLeft r log′ read ≡ transferBy kind k d read write budget script log
+  by-write s t u e = rw (s, t, u) (ap (λ (x : TransferLeft). record { call = x .call; buffer = read }) e)
+
+  pub by-read : {x : TransferLeft} → eqb (kind % 4) 0 ≡ false → eqb (kind % 4) 1 ≡ false → eqb (kind % 4) 2 ≡ false → x ≡ readNoWrite k d read budget script log
+      → x ≡ transferBy kind k d read write budget script log
+  by-read s t u e = rw (s, t, u) e
+
+-- what goes back to the host
+module _ (r : RunResult) {n next : ℕ} (en : n ≡ numberOf (r .ending)) (ed : next ≡ driverNumber (r .driver)) where
+  pub host-transfer : {log buffer : List ℕ} {x : TransferLeft} → transferLeft r log buffer ≡ x → hostLeft n next (r .accesses) (r .answers) log buffer ≡ ofTransfer x
+  host-transfer {log} {buffer} e = ap₂ (λ (m w : ℕ). hostLeft m w (r .accesses) (r .answers) log buffer) en ed ∙ ap ofTransfer e
+
+  pub host-call : {log : List ℕ} {x : Left} → left r log ≡ x → hostLeft n next (r .accesses) (r .answers) log [] ≡ ofCall x
+  host-call {log} e = ap₂ (λ (m w : ℕ). hostLeft m w (r .accesses) (r .answers) log []) en ed ∙ ap ofCall e
+
+-- a call with a value
+pub host-value : (r : RunResult) {n next v : ℕ} → n ≡ numberOf (r .ending) → next ≡ driverNumber (r .driver) → {log : List ℕ} {x : Answered ℕ} → valueLeft r v log ≡ x
+    → hostValue n next (r .accesses) (r .answers) v log ≡ ofAnswered x
+host-value r {n} {next} {v} en ed {log} e = ap₂ (λ (m w : ℕ). hostValue m w (r .accesses) (r .answers) v log) en ed ∙ ap ofAnswered e
+
+-- its value as a number
+pub as-number : {A : Type 0} (f : A → ℕ) {r : RunResult} {u : A} {v : ℕ} {log : List ℕ} {x : Answered A} → v ≡ f u → valueLeft r u log ≡ x → valueLeft r v log ≡ numbered f x
+as-number f {r} {u} {v} {log} ev e = ap (λ (n : ℕ). valueLeft r n log) ev ∙ ap (numbered f) e
+
+-- a command that was made is the one of its word
+pub command-of : (t : Transaction) {w : ℕ} → t .0 ≡ w → t ≡ transactionOf w
+command-of t e = ap transactionOf e

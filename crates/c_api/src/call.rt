@@ -1,0 +1,367 @@
+// The other calls over a script, by number: the number of the result, with the next driver value, the accesses made and the answers used where
+// they go.
+ghost use mathlib.Core.Path.{_≡_};
+ghost use mathlib.Core.List.{[]};
+ghost use Rattle.runs.specs.Run.{left};
+ghost use Rattle.calls.specs.Calls.{valueLeft};
+ghost use Rattle.calls.specs.Values.{wordsOf};
+ghost use Rattle.words.specs.Command.{flagOf};
+ghost use Rattle.c_api.specs.HostRun.{driverOf, hostLeft, ofCall};
+ghost use Rattle.c_api.specs.HostCall.{odd, directionFrom, sampleFrom, polarityFrom, clockFrom, enqueueBy, resetBy, setBy, disabledBy, fifoNumber, wordsNumber, getBy, hostValue, ofAnswered};
+use crate::command::pcs_of;
+use crate::driver::driver_number;
+use crate::driver::driver_of;
+use calls::data::enqueue_data;
+use calls::data::enqueue_transaction;
+use calls::data::read_data;
+use calls::disabled::set_chip_select_polarity;
+use calls::disabled::set_clock_configs;
+use calls::disabled::set_clock_hz;
+use calls::disabled::set_peripheral_enable;
+use calls::disabled::set_sample_point;
+use calls::fifo::clear_fifo;
+use calls::fifo::fifo_status;
+use calls::fifo::set_watermark;
+use calls::fifo::watermark;
+use calls::reset::init;
+use calls::reset::recover_from_error;
+use calls::reset::soft_reset;
+use calls::results::Data;
+use calls::results::FifoStatus;
+use calls::status::clear_status;
+use calls::status::is_enabled;
+use calls::status::set_enable;
+use calls::status::status;
+use machine::access::Ending;
+use machine::driver::Lpspi;
+use machine::settings::PcsPolarity;
+use machine::settings::SamplePoint;
+use machine::status::Status;
+use runs::result::RunResult;
+use words::clock::ClockConfigs;
+use words::transaction::Direction;
+use words::transaction::LpspiError;
+use words::transaction::Transaction;
+use words::transaction::TransactionResult;
+
+fn is_odd(a: u32) -> bool
+    ensures { λ r. ⌜ r ≡ odd a ⌝ }
+{
+    a % 2 == 1
+}
+
+fn direction(a: u32) -> Direction
+    ensures { λ r. ⌜ r ≡ directionFrom a ⌝ }
+{
+    if a % 2 == 1 {
+        Direction::Rx
+    } else {
+        Direction::Tx
+    }
+}
+
+fn sample_point(a: u32) -> SamplePoint
+    ensures { λ r. ⌜ r ≡ sampleFrom a ⌝ }
+{
+    if a % 2 == 1 {
+        SamplePoint::DelayedEdge
+    } else {
+        SamplePoint::Edge
+    }
+}
+
+fn polarity(a: u32) -> PcsPolarity
+    ensures { λ r. ⌜ r ≡ polarityFrom a ⌝ }
+{
+    if a % 2 == 1 {
+        PcsPolarity::ActiveHigh
+    } else {
+        PcsPolarity::ActiveLow
+    }
+}
+
+fn clock(word: u32) -> ClockConfigs
+    ensures { λ r. ⌜ r ≡ clockFrom word ⌝ }
+{
+    ClockConfigs {
+        sckpcs: (word / 0x100_0000 % 256) as u8,
+        pcssck: (word / 0x1_0000 % 256) as u8,
+        dbt: (word / 0x100 % 256) as u8,
+        sckdiv: (word % 256) as u8,
+    }
+}
+
+fn reset(kind: u32, driver: Lpspi, budget: usize, script: &[u32], log: &mut [u32]) -> RunResult
+    ensures { λ r. ⌜ left r (now (log .exit)) ≡ resetBy driver budget (now (script .entry)) (now (log .entry)) kind ⌝ }
+{
+    let n = kind % 3;
+    if n == 0 {
+        return soft_reset(driver, budget, script, log);
+    }
+    if n == 1 {
+        return recover_from_error(driver, budget, script, log);
+    }
+    init(driver, budget, script, log)
+}
+
+// A command of that frame size with the driver's order, mode and chip select.
+fn enqueue(
+    frame_size: u32,
+    driver: Lpspi,
+    budget: usize,
+    script: &[u32],
+    log: &mut [u32],
+) -> RunResult
+    ensures { λ r. ⌜ left r (now (log .exit)) ≡ enqueueBy driver budget (now (script .entry)) (now (log .entry)) «frame_size» ⌝ }
+{
+    let refused = RunResult {
+        ending: Ending::Err(LpspiError::FrameSize),
+        accesses: 0,
+        answers: 0,
+        driver,
+    };
+    if (Transaction::MAX_FRAME_SIZE as u32) < frame_size {
+        return refused;
+    }
+    let TransactionResult::Ok(command) = Transaction::new(frame_size as u16) else {
+        return refused;
+    };
+    enqueue_transaction(driver, driver.bus_transaction(command), budget, script, log)
+}
+
+fn set(
+    kind: u32,
+    a: u32,
+    driver: Lpspi,
+    budget: usize,
+    script: &[u32],
+    log: &mut [u32],
+) -> RunResult
+    ensures { λ r. ⌜ left r (now (log .exit)) ≡ setBy driver budget (now (script .entry)) (now (log .entry)) kind a ⌝ }
+{
+    let n = kind % 5;
+    if n == 0 {
+        return clear_status(driver, Status::from_bits_truncate(a), budget, script, log);
+    }
+    if n == 1 {
+        return set_enable(driver, is_odd(a), budget, script, log);
+    }
+    if n == 2 {
+        return clear_fifo(driver, direction(a), budget, script, log);
+    }
+    if n == 3 {
+        return enqueue_data(driver, a, budget, script, log);
+    }
+    enqueue(a, driver, budget, script, log)
+}
+
+fn disabled(
+    kind: u32,
+    a: u32,
+    b: u32,
+    driver: Lpspi,
+    budget: usize,
+    script: &[u32],
+    log: &mut [u32],
+) -> RunResult
+    ensures { λ r. ⌜ left r (now (log .exit)) ≡ disabledBy driver budget (now (script .entry)) (now (log .entry)) kind a b ⌝ }
+{
+    let n = kind % 5;
+    if n == 0 {
+        return set_clock_hz(driver, a, b, budget, script, log);
+    }
+    if n == 1 {
+        return set_clock_configs(driver, clock(a), budget, script, log);
+    }
+    if n == 2 {
+        return set_sample_point(driver, sample_point(a), budget, script, log);
+    }
+    if n == 3 {
+        return set_peripheral_enable(driver, is_odd(a), budget, script, log);
+    }
+    set_chip_select_polarity(driver, pcs_of(a), polarity(b), budget, script, log)
+}
+
+// A result, and the call's value as a number.
+pub(crate) struct Got {
+    pub result: RunResult,
+    pub value: u64,
+}
+
+fn flag(on: bool) -> u64
+    ensures { λ r. ⌜ r ≡ flagOf on ⌝ }
+{
+    if on { 1 } else { 0 }
+}
+
+fn fifo_number(f: FifoStatus) -> u64
+    ensures { λ r. ⌜ r ≡ fifoNumber f ⌝ }
+{
+    ((f.txcap as u64 * 0x1_0000 + f.rxcap as u64) * 0x1_0000 + f.txcount as u64) * 0x1_0000
+        + f.rxcount as u64
+}
+
+fn data_number(found: Data) -> u64
+    ensures { λ r. ⌜ r ≡ wordsNumber (wordsOf found) ⌝ }
+{
+    match found {
+        Data::Word(w) => 0x1_0000_0000 + w as u64,
+        Data::Empty => 0,
+    }
+}
+
+fn get(
+    kind: u32,
+    a: u32,
+    b: u32,
+    driver: Lpspi,
+    budget: usize,
+    script: &[u32],
+    log: &mut [u32],
+) -> Got
+    ensures { λ r. ⌜ valueLeft (r .result) (r .value) (now (log .exit)) ≡ getBy driver budget (now (script .entry)) (now (log .entry)) kind a b ⌝ }
+{
+    let n = kind % 6;
+    if n == 0 {
+        let r = watermark(driver, direction(a), budget, script, log);
+        let result = r.result;
+        return Got {
+            result,
+            value: r.level as u64,
+        };
+    }
+    if n == 1 {
+        let r = set_watermark(driver, direction(a), (b % 256) as u8, budget, script, log);
+        let result = r.result;
+        return Got {
+            result,
+            value: r.level as u64,
+        };
+    }
+    if n == 2 {
+        let r = status(driver, budget, script, log);
+        let result = r.result;
+        let flags = r.status;
+        return Got {
+            result,
+            value: flags.bits() as u64,
+        };
+    }
+    if n == 3 {
+        let r = is_enabled(driver, budget, script, log);
+        let result = r.result;
+        return Got {
+            result,
+            value: flag(r.enabled),
+        };
+    }
+    if n == 4 {
+        let r = fifo_status(driver, budget, script, log);
+        let result = r.result;
+        let fifo = r.fifo;
+        return Got {
+            result,
+            value: fifo_number(fifo),
+        };
+    }
+    let r = read_data(driver, budget, script, log);
+    let result = r.result;
+    let data = r.data;
+    Got {
+        result,
+        value: data_number(data),
+    }
+}
+
+#[no_mangle]
+pub extern "C" fn lpspi_reset(
+    kind: u32,
+    driver: &mut u32,
+    budget: usize,
+    script: &[u32],
+    log: &mut [u32],
+    accesses: &mut usize,
+    answers: &mut usize,
+) -> u32
+    ensures { λ r. ⌜ hostLeft r (now (driver .exit)) (now (accesses .exit)) (now (answers .exit)) (now (log .exit)) [] ≡ ofCall (resetBy (driverOf (now (driver .entry))) budget (now (script .entry)) (now (log .entry)) kind) ⌝ }
+{
+    let d = driver_of(*driver);
+    let r = reset(kind, d, budget, script, log);
+    *driver = driver_number(r.driver);
+    *accesses = r.accesses;
+    *answers = r.answers;
+    let ending = r.ending;
+    ending.number()
+}
+
+#[no_mangle]
+pub extern "C" fn lpspi_set(
+    kind: u32,
+    a: u32,
+    driver: &mut u32,
+    budget: usize,
+    script: &[u32],
+    log: &mut [u32],
+    accesses: &mut usize,
+    answers: &mut usize,
+) -> u32
+    ensures { λ r. ⌜ hostLeft r (now (driver .exit)) (now (accesses .exit)) (now (answers .exit)) (now (log .exit)) [] ≡ ofCall (setBy (driverOf (now (driver .entry))) budget (now (script .entry)) (now (log .entry)) kind a) ⌝ }
+{
+    let d = driver_of(*driver);
+    let r = set(kind, a, d, budget, script, log);
+    *driver = driver_number(r.driver);
+    *accesses = r.accesses;
+    *answers = r.answers;
+    let ending = r.ending;
+    ending.number()
+}
+
+#[no_mangle]
+pub extern "C" fn lpspi_disabled(
+    kind: u32,
+    a: u32,
+    b: u32,
+    driver: &mut u32,
+    budget: usize,
+    script: &[u32],
+    log: &mut [u32],
+    accesses: &mut usize,
+    answers: &mut usize,
+) -> u32
+    ensures { λ r. ⌜ hostLeft r (now (driver .exit)) (now (accesses .exit)) (now (answers .exit)) (now (log .exit)) [] ≡ ofCall (disabledBy (driverOf (now (driver .entry))) budget (now (script .entry)) (now (log .entry)) kind a b) ⌝ }
+{
+    let d = driver_of(*driver);
+    let r = disabled(kind, a, b, d, budget, script, log);
+    *driver = driver_number(r.driver);
+    *accesses = r.accesses;
+    *answers = r.answers;
+    let ending = r.ending;
+    ending.number()
+}
+
+// With the call's value as a number.
+#[no_mangle]
+pub extern "C" fn lpspi_get(
+    kind: u32,
+    a: u32,
+    b: u32,
+    driver: &mut u32,
+    budget: usize,
+    script: &[u32],
+    log: &mut [u32],
+    accesses: &mut usize,
+    answers: &mut usize,
+    value: &mut u64,
+) -> u32
+    ensures { λ r. ⌜ hostValue r (now (driver .exit)) (now (accesses .exit)) (now (answers .exit)) (now (value .exit)) (now (log .exit)) ≡ ofAnswered (getBy (driverOf (now (driver .entry))) budget (now (script .entry)) (now (log .entry)) kind a b) ⌝ }
+{
+    let d = driver_of(*driver);
+    let got = get(kind, a, b, d, budget, script, log);
+    *value = got.value;
+    let r = got.result;
+    *driver = driver_number(r.driver);
+    *accesses = r.accesses;
+    *answers = r.answers;
+    let ending = r.ending;
+    ending.number()
+}
