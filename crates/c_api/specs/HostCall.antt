@@ -33,6 +33,7 @@ use Rattle.c_api.specs.HostRun.{HostLeft, hostLeft, ofCall}
 
 -- PARAMETERS
 
+-- the command of a word of TCR
 abbrev pub transactionOf : ℕ → Transaction
 transactionOf w = record { 0 = w }
 
@@ -58,18 +59,19 @@ clockFrom w = record { sckpcs = w / 0x1000000 % 256; pcssck = w / 0x10000 % 256;
 -- CALLS BY NUMBER
 
 module _ (d : Lpspi) (budget : ℕ) (script log : List ℕ) where
+  -- a command of a bits with the driver's order, mode and chip select; number 1 and all as found where that frame size is refused
   abbrev pub enqueueBy : ℕ → Left
   enqueueBy a =
       cond (frameAccepted a) (ranCall (callRun d (EnqueueTransaction (transactionOf (driverCommand d (setField (Tcr FRAMESZ) (a - 1) 0)))) budget script log))
       (left (record { ending = Err FrameSize; accesses = 0; answers = 0; driver = d }) log)
 
-  -- modulo 3
+  -- the resets, modulo 3
   abbrev pub resetBy : ℕ → Left
   resetBy kind =
       cond (eqb (kind % 3) 0) (ranCall (callRun d SoftReset budget script log))
       (cond (eqb (kind % 3) 1) (ranCall (callRun d RecoverFromError budget script log)) (ranCall (callRun d Init budget script log)))
 
-  -- modulo 5; 4 is a command of a bits with the driver's order, mode and chip select, or number 1 and all as found
+  -- status, enabled state, FIFOs and data, modulo 5
   abbrev pub setBy : ℕ → ℕ → Left
   setBy kind a =
       cond (eqb (kind % 5) 0) (ranCall (callRun d (ClearStatus (statusFrom a)) budget script log))
@@ -77,7 +79,7 @@ module _ (d : Lpspi) (budget : ℕ) (script log : List ℕ) where
       (cond (eqb (kind % 5) 2) (ranCall (callRun d (ClearFifo (directionFrom a)) budget script log))
       (cond (eqb (kind % 5) 3) (ranCall (callRun d (EnqueueData a) budget script log)) (enqueueBy a))))
 
-  -- modulo 5
+  -- the disabled operations, modulo 5
   abbrev pub disabledBy : ℕ → ℕ → ℕ → Left
   disabledBy kind a b =
       cond (eqb (kind % 5) 0) (setClockHzRun d a b budget script log)
@@ -98,8 +100,8 @@ wordsNumber (w ∷ l) = 0x100000000 + w
 abbrev pub numbered : {A : Type 0} → (A → ℕ) → Answered A → Answered ℕ
 numbered f x = record { run = x .run; value = f (x .value) }
 
--- modulo 6
 module _ (d : Lpspi) (budget : ℕ) (script log : List ℕ) where
+  -- the calls with a value, modulo 6
   abbrev pub getBy : ℕ → ℕ → ℕ → Answered ℕ
   getBy kind a b =
       cond (eqb (kind % 6) 0) (valued (watermarkIn (directionFrom a)) 0 (callRun d GetWatermark budget script log))

@@ -264,17 +264,14 @@ pub fn exchanges<W: Copy + PartialEq + Debug>(
     assert!(all.iter().all(|count| *count >= 20), "{all:?}");
 }
 
-/// A transfer of one buffer of one side.
-pub type OneBuffer<W> = fn(Driver, &mut [W], usize, &[u32], &mut [u32]) -> Run;
-
 /// Compares transfers of one buffer. Every number from 0 to 5 must be given, but for
 /// the errors that a transfer which only sends, or only receives, does not see.
 pub fn one_buffers<W: Copy + PartialEq + Debug>(
     random: &mut Random,
     element: fn(&mut Random) -> W,
     numbers: &[usize],
-    port: OneBuffer<W>,
-    other: OneBuffer<W>,
+    port: impl Fn(Driver, &mut [W], usize, &[u32], &mut [u32]) -> Run,
+    other: impl Fn(Driver, &mut [W], usize, &[u32], &mut [u32]) -> Run,
 ) {
     let per_word = 4 / size_of::<W>();
     let longest = 128 * per_word;
