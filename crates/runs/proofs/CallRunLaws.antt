@@ -15,7 +15,8 @@ use Rattle.machine.specs.Call.{callStart, callAccess, callAfter}
 use Rattle.runs.specs.declared.call.Called.{Called}
 use Rattle.runs.specs.Run.{State, limits, endingOf, halted}
 use Rattle.runs.specs.Call.{callStates, callLeft, calledBy, callRun}
-use Rattle.runs.proofs.LoopLaws.{At, at-full, at-halted}
+use Rattle.runs.specs.Loop.{At}
+use Rattle.runs.proofs.LoopLaws.{at-full, at-halted}
 
 abbrev pub CallAt : Call → List ℕ → List ℕ → Sequence → ℕ → ℕ → Sequence → List ℕ → Type 0
 CallAt c script old first made used s log = At (callAccess c) (callAfter c) script old first made used s log

@@ -3,11 +3,11 @@
 use Prim.Native.Nat.{ℕ, _+_, _*_, _<_, _≤_, min}
 use mathlib.Core.Bool.{Bool, true, false}
 use mathlib.Core.List.{List}
-use mathlib.Core.Path.{_≡_, refl, sym, ap, ap₂, _∙_}
+use mathlib.Core.Path.{_≡_, refl, sym, ap, ap₂, _∙_, subst}
 use native.Mathlib.Omega.{arith}
 use lib.ListN.{length, getD}
 use lib.Dec.{leb}
-use borrow.Author.Tests.{lt-leb, leb-false}
+use borrow.Author.Tests.{lt-leb, leb-true, leb-false}
 use Rattle.manual.specs.declared.Register.the-variants.{SR, PARAM, FSR}
 use Rattle.machine.specs.declared.access.Access.the-variants.{Read}
 use Rattle.machine.specs.declared.access.Ending.{Ending}
@@ -18,8 +18,8 @@ use Rattle.machine.specs.declared.flush.Flush.the-variants.{Status, Sizes, Coun
 use Rattle.machine.specs.Flush.{flushAccess, flushed}
 use Rattle.runs.specs.declared.flush.Flushed.{Flushed}
 use Rattle.runs.specs.Run.{limits, codeOf, halted, ended, endingOf, State, left, logOver, put}
-use Rattle.runs.specs.Flush.{flushStates, FlushLeft, flushLeft, flushLoop, flushRun}
-use Rattle.runs.proofs.LoopLaws.{At, at-next, at-full, at-halted}
+use Rattle.runs.specs.Flush.{flushStates, FlushLeft, flushLeft, flushLoop, flushRun, FlushAt, statusDue, sizesDue, Busy}
+use Rattle.runs.proofs.LoopLaws.{at-next, at-full, at-halted}
 
 -- a flush that has not ended reads: it is halted where the script is used up, and stopped where it halts
 reads-halted : (f : Flush) (used answers : ℕ) → ended (flushAccess f) ≡ false → halted (flushAccess f) used answers ≡ leb answers used
@@ -40,10 +40,6 @@ ended-halted Sizes used answers e = cc
 ended-halted Counts used answers e = cc
 ended-halted (Ended x) used answers e = refl
 
--- after n accesses the loop holds f and this log
-abbrev pub FlushAt : List ℕ → List ℕ → ℕ → Flush → List ℕ → Type 0
-FlushAt script old n f log = At flushAccess flushed script old Status n n f log
-
 -- THE LOOP: one turn
 module _ (script old : List ℕ) (n : ℕ) where
   pub flush-next : (f g : Flush) (v : ℕ) (log log′ : List ℕ) → FlushAt script old n f log → ended (flushAccess f) ≡ false → n < length script → 2 * n + 1 < length old
@@ -52,6 +48,46 @@ module _ (script old : List ℕ) (n : ℕ) where
   flush-next Sizes g v log log′ h e l r ev el eg = at-next flushAccess flushed script old Status n n Sizes log h (Read PARAM) v refl (lt-leb (length script) n l) ev g log′ r eg el
   flush-next Counts g v log log′ h e l r ev el eg = at-next flushAccess flushed script old Status n n Counts log h (Read FSR) v refl (lt-leb (length script) n l) ev g log′ r eg el
   flush-next (Ended x) g v log log′ h e l r ev el eg = absurd (let z : _≡_ {A = ℕ} 0 1 = cc in omega arith)
+
+  -- BUSY POLLS, and one that finds words to send: the flush stands where it stood
+  pub flush-busy : (log log′ : List ℕ) → FlushAt script old n Status log → flushed Status (getD script n 0) ≡ Status → n < length script → 2 * n + 1 < length old
+      → log′ ≡ put log n (codeOf (flushAccess Status)) (getD script n 0) → FlushAt script old (n + 1) Status log′
+  flush-busy log log′ h b l r el = flush-next Status Status (getD script n 0) log log′ h refl l r refl el (sym b)
+
+pub flush-filled : (script old : List ℕ) (n : ℕ) (log log₁ log₂ log₃ : List ℕ) → FlushAt script old n Status log → n + 2 < length script → 2 * (n + 3) ≤ length old
+    → flushed Status (getD script n 0) ≡ Sizes → flushed Counts (getD script (n + 2) 0) ≡ Status
+    → log₁ ≡ put log n (codeOf (flushAccess Status)) (getD script n 0)
+    → log₂ ≡ put log₁ (n + 1) (codeOf (flushAccess Sizes)) (getD script (n + 1) 0)
+    → log₃ ≡ put log₂ (n + 2) (codeOf (flushAccess Counts)) (getD script (n + 2) 0)
+    → FlushAt script old (n + 3) Status log₃
+flush-filled script old n log log₁ log₂ log₃ h l r s t e₁ e₂ e₃ =
+    let h₁ : FlushAt script old (n + 1) Sizes log₁ = flush-next script old n Status Sizes (getD script n 0) log log₁ h refl (omega arith) (omega arith) refl e₁ (sym s) in
+    let h₂ : FlushAt script old (n + 1 + 1) Counts log₂ = flush-next script old (n + 1) Sizes Counts (getD script (n + 1) 0) log₁ log₂ h₁ refl (omega arith) (omega arith) refl e₂ refl in
+    let two : n + 1 + 1 ≡ n + 2 = omega arith in
+    let h₂′ : FlushAt script old (n + 2) Counts log₂ = subst (λ (m : ℕ). FlushAt script old m Counts log₂) two h₂ in
+    let h₃ : FlushAt script old (n + 2 + 1) Status log₃ = flush-next script old (n + 2) Counts Status (getD script (n + 2) 0) log₂ log₃ h₂′ refl (omega arith) (omega arith) refl e₃ (sym t) in
+    let three : n + 2 + 1 ≡ n + 3 = omega arith in
+    subst (λ (m : ℕ). FlushAt script old m Status log₃) three h₃
+
+pub status-due : (f : Flush) → statusDue f ≡ true → f ≡ Status
+status-due Status e = refl
+status-due Sizes e = cc
+status-due Counts e = cc
+status-due (Ended x) e = cc
+
+pub sizes-due : (f : Flush) → sizesDue f ≡ true → f ≡ Sizes
+sizes-due Status e = cc
+sizes-due Sizes e = refl
+sizes-due Counts e = cc
+sizes-due (Ended x) e = cc
+
+-- one busy answer more
+pub busy-more : (script : List ℕ) (from n : ℕ) → Busy script from n → flushed Status (getD script n 0) ≡ Status → Busy script from (n + 1)
+busy-more script from n b e i l u = by-test (leb n i) refl
+  where
+    by-test : (t : Bool) → leb n i ≡ t → flushed Status (getD script i 0) ≡ Status
+    by-test true t = let le = leb-true n i t in let same : i ≡ n = omega arith in ap (λ (j : ℕ). flushed Status (getD script j 0)) same ∙ e
+    by-test false t = let lt = leb-false n i t in b i l (omega arith)
 
 -- ITS END
 module _ (script old : List ℕ) (n : ℕ) (f : Flush) (log : List ℕ) (h : FlushAt script old n f log) where

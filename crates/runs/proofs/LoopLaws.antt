@@ -7,21 +7,18 @@ use mathlib.Core.Path.{_≡_, refl, sym, ap, ap₂, _∙_}
 use native.Mathlib.Omega.{arith}
 use lib.ListN.{length, getD, length-append}
 use Rattle.machine.specs.declared.access.Access.{Access}
-use Rattle.runs.specs.Run.{Logged, codeOf, valueOf, usesOf, answerOf, receivedAfter, halted, times, State, start, step, afterAccess, run, noWords, logOver, put}
+use Rattle.runs.specs.Run.{Logged, codeOf, valueOf, usesOf, answerOf, receivedAfter, halted, times, State, start, step, afterAccess, noWords, logOver, put}
+use Rattle.runs.specs.Loop.{At, states as statesFrom}
 use Rattle.runs.proofs.RunLaws.{run-add, run-halted, run-last, log-put}
 
 module _ {M : Type 0} (next : M → Access) (resume : M → ℕ → M) (script old : List ℕ) (first : M) where
   abbrev states : ℕ → State M
-  states n = run next resume noWords script n (start first)
+  states = statesFrom next resume script old first
 
-  -- after `made` accesses the loop holds the machine m and this log, and has used so many answers
-  pub record At (made used : ℕ) (m : M) (log : List ℕ) : Type 0 where
-    pub machine : states made .machine ≡ m
-    pub answers : states made .used ≡ used
-    pub pairs : length (states made .log) ≡ made
-    pub held : log ≡ logOver old (states made .log)
+  abbrev Held : ℕ → ℕ → M → List ℕ → Type 0
+  Held = At next resume script old first
 
-  pub at-start : At 0 0 first old
+  pub at-start : Held 0 0 first old
   unfolding times
   at-start = record { machine = refl; answers = refl; pairs = refl; held = refl }
 
@@ -34,7 +31,7 @@ module _ {M : Type 0} (next : M → Access) (resume : M → ℕ → M) (script o
   unfolding step afterAccess entry
   stepped m a n l rs e h = rw (e, h)
 
-  module _ (made used : ℕ) (m : M) (log : List ℕ) (h : At made used m log) where
+  module _ (made used : ℕ) (m : M) (log : List ℕ) (h : Held made used m log) where
     abbrev here : State M
     here = states made
 
@@ -51,7 +48,7 @@ module _ {M : Type 0} (next : M → Access) (resume : M → ℕ → M) (script o
           ∙ ap (λ (x : ℕ). record { machine = resume m (answerOf a x); used = used + usesOf a; log = here .log ++ (entry a x ∷ []); received = receivedAfter a x (here .received) }) (sym ev)
 
       pub at-next : (m′ : M) (log′ : List ℕ) → 2 * made + 1 < length old → m′ ≡ resume m (answerOf a v) → log′ ≡ put log made (codeOf a) (valueOf (noWords []) a v)
-          → At (made + 1) (used + usesOf a) m′ log′
+          → Held (made + 1) (used + usesOf a) m′ log′
       unfolding entry
       at-next m′ log′ l em el =
           let e = next-state in

@@ -1,7 +1,7 @@
 -- Whole turns stay with the run: the three reads of a poll, said once over the phase that holds the poll, and the access after it.
 -- Assumes nothing.
 use Prim.Native.Nat.{ℕ, _+_, _*_, _<_, _≤_}
-use mathlib.Core.Bool.{Bool, true, false, cond, not}
+use mathlib.Core.Bool.{Bool, true, false, cond}
 use mathlib.Core.List.{List}
 use mathlib.Core.Path.{_≡_, refl, sym, ap, _∙_, subst}
 use native.Mathlib.Nat.{add-zero}
@@ -34,7 +34,7 @@ use Rattle.runs.specs.declared.turns.Turn.{Turn}
 use Rattle.runs.specs.declared.turns.Turn.the-variants.{Made}
 use Rattle.runs.specs.Run.{put}
 use Rattle.runs.specs.Drive.{wordIn, Stands}
-use Rattle.runs.specs.Turns.{spot, putPoll, Whole, Looked, otherSide, hasMore, dueSide, Within, Onward, Turned, Waited}
+use Rattle.runs.specs.Turns.{spot, putPoll, Whole, Looked, otherSide, sameSide, hasMore, dueSide, isDue, Within, Onward, Turned, Waited}
 use Rattle.runs.proofs.DriveLaws.{stands-next, stands-start}
 
 length-put : (log : List ℕ) (made at v : ℕ) → length (put log made at v) ≡ length log
@@ -237,9 +237,14 @@ within-passed n budget places u v e h =
 pub as-look : (d : Direction) (made used budget : ℕ) (script log log′ : List ℕ) (r r′ : Shown) → r ≡ r′ → Looked d made used budget script log log′ r → Looked d made used budget script log log′ r′
 as-look d made used budget script log log′ r r′ e h = subst (Looked d made used budget script log log′) e h
 
-pub not-false : (b : Bool) → not b ≡ false → b ≡ true
-not-false true e = refl
-not-false false e = cc
+pub due-side : (d : Direction) (n : Count) (t : Turns) → isDue d n t ≡ true → (t .side ≡ d) × (hasMore d n (t .sent) (t .spot .received) ≡ true)
+due-side d n t e = by-sides d (t .side) (hasMore d n (t .sent) (t .spot .received)) e
+  where
+    by-sides : (x y : Direction) (b : Bool) → cond (sameSide x y) b false ≡ true → (y ≡ x) × (b ≡ true)
+    by-sides Tx Tx b h = (refl, h)
+    by-sides Tx Rx b h = (cc, cc)
+    by-sides Rx Tx b h = (cc, cc)
+    by-sides Rx Rx b h = (refl, h)
 
 pub as-turn : (f : Frame) (script send : List ℕ) (n : Count) (budget : ℕ) (t : Turns) (log words log′ words′ : List ℕ) (r r′ : Turn) → r ≡ r′
     → Turned f script send n budget t log words log′ words′ r → Turned f script send n budget t log words log′ words′ r′

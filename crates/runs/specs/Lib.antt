@@ -1,5 +1,6 @@
 -- Read in this order.
 pub mod Run
+pub mod Loop
 pub mod Flush
 pub mod Call
 pub mod Unlimited

@@ -51,6 +51,12 @@ abbrev pub otherSide : Direction → Direction
 otherSide Tx = Rx
 otherSide Rx = Tx
 
+abbrev pub sameSide : Direction → Direction → Bool
+sameSide Tx Tx = true
+sameSide Tx Rx = false
+sameSide Rx Tx = false
+sameSide Rx Rx = true
+
 -- a side has words left
 abbrev pub hasMore : Direction → Count → ℕ → ℕ → Bool
 hasMore Tx n sent received = ltb sent (n .send)
@@ -59,6 +65,10 @@ hasMore Rx n sent received = ltb received (n .receive)
 -- a side that has ended is passed over
 abbrev pub dueSide : Direction → Count → ℕ → ℕ → Direction
 dueSide d n sent received = cond (hasMore d n sent received) d (otherSide d)
+
+-- it is that side's turn, and it has words left
+abbrev pub isDue : Direction → Count → Turns → Bool
+isDue d n t = cond (sameSide d (t .side)) (hasMore d n (t .sent) (t .spot .received)) false
 
 pub record Within (budget places : ℕ) (t : Turns) : Type 0 where
   pub made : t .spot .made ≤ budget

@@ -1,7 +1,7 @@
 // Whole turns of a transfer: a poll's three reads and its word. A turn is made only if it certainly fits budget and script and shows no error;
 // all the rest is left to `drive`.
 ghost use mathlib.Core.Path.{_≡_};
-ghost use mathlib.Core.Bool.{true, not};
+ghost use mathlib.Core.Bool.{true};
 ghost use mathlib.Core.List.{List};
 ghost use Prim.Native.Nat.{ℕ, _+_, _*_, _<_, _≤_};
 ghost use lib.ListN.{length, getD, set};
@@ -9,8 +9,10 @@ ghost use Rattle.manual.specs.declared.Register.the-variants.{TDR, RDR};
 ghost use Rattle.manual.specs.Manual.{offsetOf};
 ghost use Rattle.machine.specs.Transfer.{counted};
 ghost use Rattle.runs.specs.Run.{put};
+ghost use Rattle.runs.specs.declared.drive.Frame.{Frame as Frames};
+ghost use Rattle.runs.specs.declared.turns.Count.{Count as Counts};
 ghost use Rattle.runs.specs.Drive.{wordIn};
-ghost use Rattle.runs.specs.Turns.{spot, Looked, otherSide, hasMore, dueSide, Within, Onward, Turned, Waited};
+ghost use Rattle.runs.specs.Turns.{spot, Looked, otherSide, sameSide, hasMore, dueSide, isDue, Within, Onward, Turned, Waited};
 use crate::access::WRITE;
 use crate::drive::Frame;
 use crate::drive::Spot;
@@ -125,15 +127,31 @@ fn pass(t: Turns, count: Count) -> Turns
     }
 }
 
-fn ended(t: Turns, count: Count) -> bool
-    ensures { λ r. ⌜ r ≡ not (hasMore (t .side) count (t .sent) (t .spot .received)) ⌝ }
+fn same(side: Direction, other: Direction) -> bool
+    ensures { λ r. ⌜ r ≡ sameSide side other ⌝ }
 {
-    let side = t.side;
-    let s = t.spot;
-    if has_more(side, count, t.sent, s.received) {
-        return false;
+    match side {
+        Direction::Tx => match other {
+            Direction::Tx => true,
+            Direction::Rx => false,
+        },
+        Direction::Rx => match other {
+            Direction::Tx => false,
+            Direction::Rx => true,
+        },
     }
-    true
+}
+
+// It is that side's turn, and it has words left.
+fn due(side: Direction, t: Turns, count: Count) -> bool
+    ensures { λ r. ⌜ r ≡ isDue side count t ⌝ }
+{
+    let turn = t.side;
+    let s = t.spot;
+    if same(side, turn) {
+        return has_more(side, count, t.sent, s.received);
+    }
+    false
 }
 
 // The word after a poll of the sending side.
@@ -195,32 +213,102 @@ fn wait(t: Turns) -> Turns
     }
 }
 
-// The turn of a side that has words left.
-fn take_turn(
+// A turn of the sending side, if it has words left.
+fn send_turn(
     t: Turns,
+    frame: Frame,
+    budget: usize,
+    script: &[u32],
+    log: &mut [u32],
+    send: &[u32],
+    words: &[u32],
+) -> Turn
+    requires within { ⌜ Within budget (length (now words)) t ⌝ }
+    requires room { ⌜ 2 * budget ≤ length (now log) ⌝ }
+    ensures { λ r. ⌜ ((n : Counts) → isDue Direction.Tx n t ≡ true → Turned frame (now (script .entry)) (now (send .entry)) n budget t (now (log .entry)) (now (words .entry)) (now (log .exit)) (now (words .entry)) r) ⌝ }
+{
+    let s = t.spot;
+    match poll(Direction::Tx, s.made, s.used, budget, script, log) {
+        Shown::Rare => Turn::Undone,
+        Shown::Unready => Turn::Made(wait(t)),
+        Shown::Ready => Turn::Made(send_word(t, frame, log, send, words)),
+    }
+}
+
+// A turn of the receiving side, if it has words left.
+fn receive_turn(t: Turns, budget: usize, script: &[u32], log: &mut [u32], words: &mut [u32]) -> Turn
+    requires within { ⌜ Within budget (length (now words)) t ⌝ }
+    requires room { ⌜ 2 * budget ≤ length (now log) ⌝ }
+    ensures { λ r. ⌜ ((f : Frames) (send : List ℕ) (n : Counts) → isDue Direction.Rx n t ≡ true → n .receive ≤ length (now (words .entry)) → Turned f (now (script .entry)) send n budget t (now (log .entry)) (now (words .entry)) (now (log .exit)) (now (words .exit)) r) ⌝ }
+{
+    let s = t.spot;
+    match poll(Direction::Rx, s.made, s.used, budget, script, log) {
+        Shown::Rare => Turn::Undone,
+        Shown::Unready => Turn::Made(wait(t)),
+        Shown::Ready => Turn::Made(receive_word(t, script, log, words)),
+    }
+}
+
+// The sending side goes until it must wait or ends. There is a loop for each side, so that the side is looked at once.
+fn send_turns(
+    first: Turns,
     count: Count,
     frame: Frame,
     budget: usize,
     script: &[u32],
     log: &mut [u32],
     send: &[u32],
+    words: &[u32],
+) -> Turns
+    requires within { ⌜ Within budget (length (now words)) first ⌝ }
+    requires room { ⌜ 2 * budget ≤ length (now log) ⌝ }
+    ensures { λ r. ⌜ Within budget (length (now (words .entry))) r × Onward frame (now (script .entry)) (now (send .entry)) count first (now (log .entry)) (now (words .entry)) r (now (log .exit)) (now (words .entry)) ⌝ }
+{
+    let mut t = first;
+    loop {
+        if due(Direction::Tx, t, count) {
+            match send_turn(t, frame, budget, script, log, send, words) {
+                Turn::Made(u) => {
+                    t = u;
+                }
+                Turn::Undone => {
+                    return t;
+                }
+            }
+        } else {
+            return pass(t, count);
+        }
+    }
+}
+
+// Then the receiving side.
+fn receive_turns(
+    first: Turns,
+    count: Count,
+    budget: usize,
+    script: &[u32],
+    log: &mut [u32],
     words: &mut [u32],
-) -> Turn
-    requires more { ⌜ hasMore (t .side) count (t .sent) (t .spot .received) ≡ true ⌝ }
-    requires within { ⌜ Within budget (length (now words)) t ⌝ }
+) -> Turns
+    requires within { ⌜ Within budget (length (now words)) first ⌝ }
     requires room { ⌜ 2 * budget ≤ length (now log) ⌝ }
     requires places { ⌜ count .receive ≤ length (now words) ⌝ }
-    ensures { λ r. ⌜ Turned frame (now (script .entry)) (now (send .entry)) count budget t (now (log .entry)) (now (words .entry)) (now (log .exit)) (now (words .exit)) r ⌝ }
+    ensures { λ r. ⌜ Within budget (length (now (words .entry))) r × ((f : Frames) (send : List ℕ) → Onward f (now (script .entry)) send count first (now (log .entry)) (now (words .entry)) r (now (log .exit)) (now (words .exit))) ⌝ }
 {
-    let side = t.side;
-    let s = t.spot;
-    match poll(side, s.made, s.used, budget, script, log) {
-        Shown::Rare => Turn::Undone,
-        Shown::Unready => Turn::Made(wait(t)),
-        Shown::Ready => match side {
-            Direction::Tx => Turn::Made(send_word(t, frame, log, send, words)),
-            Direction::Rx => Turn::Made(receive_word(t, script, log, words)),
-        },
+    let mut t = first;
+    loop {
+        if due(Direction::Rx, t, count) {
+            match receive_turn(t, budget, script, log, words) {
+                Turn::Made(u) => {
+                    t = u;
+                }
+                Turn::Undone => {
+                    return t;
+                }
+            }
+        } else {
+            return pass(t, count);
+        }
     }
 }
 
@@ -242,18 +330,14 @@ pub(crate) fn take_turns(
 {
     let mut t = first;
     loop {
-        t = pass(t, count);
-        if ended(t, count) {
-            return t;
+        let before = t.spot;
+        let sent = send_turns(t, count, frame, budget, script, log, send, words);
+        let both = receive_turns(sent, count, budget, script, log, words);
+        let after = both.spot;
+        if after.made <= before.made {
+            return both;
         }
-        match take_turn(t, count, frame, budget, script, log, send, words) {
-            Turn::Made(u) => {
-                t = u;
-            }
-            Turn::Undone => {
-                return t;
-            }
-        }
+        t = both;
     }
 }
 

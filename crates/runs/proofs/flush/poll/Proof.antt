@@ -7,8 +7,9 @@ use lib.ListN.{length}
 use Rattle.machine.specs.declared.flush.Flush.the-variants.{Status}
 use Rattle.machine.specs.Flush.{flushAccess, flushed}
 use Rattle.runs.specs.Run.{put}
+use Rattle.runs.specs.Flush.{FlushAt}
 use Rattle.runs.proofs.LoopLaws.{at-start}
-use Rattle.runs.proofs.FlushLaws.{FlushAt, flush-next, loop-ended, loop-stopped}
+use Rattle.runs.proofs.FlushLaws.{flush-next, loop-ended, loop-stopped}
 use borrow.Author.Needs.{needs}
 use Rattle.runs.proofs.flush.poll.Statement.{statement}
 use Rattle.runs.proofs.flush.poll.Tie as tie
@@ -36,6 +37,9 @@ has-ended-requires c κs = search needs
 ending-of-requires : tie.Need-ending-of-requires Inv-loop μ-loop
 ending-of-requires c κs = search needs
 
+pass-over-requires : tie.Need-pass-over-requires Inv-loop μ-loop
+pass-over-requires c κs = (omega arith, omega arith, omega arith)
+
 offset-of-requires : tie.Need-offset-of-requires Inv-loop μ-loop
 offset-of-requires c κs = search needs
 
@@ -53,15 +57,15 @@ loop-less c = omega arith
 
 loop-again : tie.Need-loop-again Inv-loop μ-loop
 loop-again c =
-    let p = c .before .before .before .before .before .before .before .before .before in
-    let l = p .loop in
-    let a = p .before .before .before .before .before .args in
+    let l = c .before .before .before .before .before .before .before .before .before .before .before .before .before .loop in
+    let a = c .before .before .before .before .before .before .before .before .before .before .before .before .before .before .before .before .before .before .args in
+    let o = c .before .before .before .before .before .before .before .before .before .pass-over in
     let r = c .before .before .before .read in
-    let e = sym (c .before .before .before .before .before .before .before .before .has-ended .ensures) ∙ c .before .before .before .before .before .before .before .if1 .left in
-    let logged = r .ensures .1 ∙ ap₂ (λ (x y : ℕ). put (l .log) (l .made) x y) (c .before .before .before .before .offset-of .ensures) (sym (r .ensures .0)) in (
+    let e = sym (c .before .before .before .before .before .before .before .before .before .before .before .before .has-ended .ensures) ∙ c .before .before .before .before .before .before .before .before .before .before .before .if1 .left in
+    let logged = r .ensures .1 ∙ ap₂ (λ (x y : ℕ). put (o .last .1 .1 .1 .1 .0) (o .result) x y) (c .before .before .before .before .offset-of .ensures) (sym (r .ensures .0)) in (
       omega arith,
-      r .kept .1 .0 ∙ l .inv .1,
-      flush-next (a .script .now) (a .log .now) (l .made) (l .flush) (c .answered .result) (r .result) (l .log) (r .last .1 .0) (l .inv .2) e (omega arith) (omega arith) (r .ensures .0) logged (c .answered .ensures),
+      r .kept .1 .0 ∙ o .kept .1 .1 .1 .1 .0 ∙ l .inv .1,
+      flush-next (a .script .now) (a .log .now) (o .result) (l .flush) (c .answered .result) (r .result) (o .last .1 .1 .1 .1 .0) (r .last .1 .0) (o .ensures .2 (a .log .now) (l .inv .1) (l .inv .2)) e (omega arith) (omega arith) (r .ensures .0) logged (c .answered .ensures),
     )
 
 same-length : tie.Need-same-length Inv-loop μ-loop
@@ -75,14 +79,15 @@ returns c =
     loop-ended (a .script .now) (a .log .now) (l .made) (l .flush) (l .log) (l .inv .2) (a .budget) (c .ending-of .result) (omega arith) e (c .ending-of .ensures)
 
 same-length-2 : tie.Need-same-length-2 Inv-loop μ-loop
-same-length-2 c = c .before .before .before .loop .inv .1
+same-length-2 c = c .before .before .before .pass-over .kept .1 .1 .1 .1 .0 ∙ c .before .before .before .before .before .before .before .loop .inv .1
 
 returns-2 : tie.Need-returns-2 Inv-loop μ-loop
 returns-2 c =
-    let l = c .before .before .before .loop in
-    let a = c .before .before .before .before .before .before .before .before .args in
-    let e = sym (c .before .before .has-ended .ensures) ∙ c .before .if1 .left in
-    loop-stopped (a .script .now) (a .log .now) (l .made) (l .flush) (l .log) (l .inv .2) (a .budget) (omega arith) e (omega arith)
+    let l = c .before .before .before .before .before .before .before .loop in
+    let a = c .before .before .before .before .before .before .before .before .before .before .before .before .args in
+    let o = c .before .before .before .pass-over in
+    let e = sym (c .before .before .before .before .before .before .has-ended .ensures) ∙ c .before .before .before .before .before .if1 .left in
+    loop-stopped (a .script .now) (a .log .now) (o .result) (l .flush) (o .last .1 .1 .1 .1 .0) (o .ensures .2 (a .log .now) (l .inv .1) (l .inv .2)) (a .budget) (omega arith) e (omega arith)
 
 pub poll-spec : {M : Type 1} → statement M
 poll-spec =
@@ -95,6 +100,7 @@ poll-spec =
     loop-holds
     has-ended-requires
     ending-of-requires
+    pass-over-requires
     offset-of-requires
     read-requires
     add-made
