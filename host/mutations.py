@@ -3,9 +3,10 @@
 
     rt staticlib c_api; host/mutations.py [NUMBER ..]
 
-One line for each: the tests that see it. The first change is none, and must pass. It takes some minutes and is not part of the gate.
+One line for each: in how many cases port and original part, random and directed ones. The first change is none, and must pass. It takes some minutes and is not part of the gate.
 """
 import os
+import re
 import subprocess
 import sys
 import tempfile
@@ -77,14 +78,39 @@ MUTATIONS = [
     ("flags not masked", sub("let flags = flags & Status::W1C;", "let flags = flags;")),
     ("watermarks change places", swap("FCR, RXWATER),", "FCR, TXWATER),")),
     ("RDR read before RXCOUNT is looked at", after("async fn spin_for_word", "            let fifo_status = self.fifo_status();\n            if !fifo_status.is_empty(Direction::Rx) {\n                let data = self.read_data_unchecked();", "            let data = self.read_data_unchecked();\n            let fifo_status = self.fifo_status();\n            if !fifo_status.is_empty(Direction::Rx) {")),
+    ("in place sends the buffer as it was", sub("        let (tx, rx) = transfer_in_place(data);\n", "        let before = data.to_vec();\n        let (tx, rx) = (TransmitBuffer::new(&before), ReceiveBuffer::new(data));\n")),
+    ("no RXMSK in write_no_read", sub("        transaction.set_receive_data_mask(true);\n", "")),
+    ("no TXMSK in read_no_write", sub("        transaction.set_transmit_data_mask(true);\n", "")),
+    ("no recovery in exchange", after("fn exchange<W: Word>", "        .inspect_err(|_| self.recover_from_error())?;\n", "?;\n")),
+    ("no recovery in write_no_read", after("fn write_no_read", "            self.recover_from_error();\n", "")),
+    ("no recovery in read_no_write", after("fn read_no_write", "            self.recover_from_error();\n", "")),
+    ("no empty test in exchange_separate", sub("        if larger_buffer.is_empty() {\n            return Ok(());\n        }\n", "")),
+    ("frame of the write buffer", sub("self.bus_transaction(larger_buffer)?", "self.bus_transaction(if write.is_empty() { larger_buffer } else { write })?")),
+    ("halves not reversed in MSB", after("impl Word for u16", "matches!(bit_order, BitOrder::Msb)", "matches!(bit_order, BitOrder::Lsb)")),
+    ("dummy word is 0", sub("const DUMMY: u32 = u32::MAX;", "const DUMMY: u32 = 0;")),
+    ("frames of 1 bit over words", sub(" && (1 != last_frame_size)", "")),
+    ("half divider of 2", sub("half_div.clamp(3, 128)", "half_div.clamp(2, 128)")),
+    ("half divider of 127 at most", sub("half_div.clamp(3, 128)", "half_div.clamp(3, 127)")),
+    ("no wait for MEN 0 where disabled", sub("        while ral::read_reg!(ral::lpspi, lpspi, CR, MEN == MEN_1) {}\n", "")),
+    ("unnamed status bits", after("pub fn status", "Status::from_bits_truncate", "Status::from_bits_retain")),
+    ("FIFOs change places", swap("CR, RTF: RTF_1),", "CR, RRF: RRF_1),")),
 ]
+
+
+def differing(output, directed):
+    """Cases that differ, and all cases, of the directed tests or of the random ones."""
+    lines = re.findall(r"^original: (.*): (\d+) of (\d+) cases differ$", output, re.MULTILINE)
+    counts = [(int(n), int(m)) for test, n, m in lines if ("directed" in test) == directed]
+    return sum(n for n, _ in counts), sum(m for _, m in counts)
+
 
 only = [int(a) for a in sys.argv[1:]]
 wrong = 0
 with tempfile.TemporaryDirectory() as folder:
     path = os.path.join(folder, "lpspi.rs")
-    env = dict(os.environ, LPSPI_ORIGINAL=path, CARGO_TARGET_DIR=os.path.join(HOST, "target/mutations"), RUST_BACKTRACE="0", LPSPI_SEED="1")
-    test = ["cargo", "test", "--quiet", "--locked", "--offline", "--manifest-path", HOST + "/Cargo.toml", "--test", "original", "--", "port"]
+    env = dict(os.environ, LPSPI_ORIGINAL=path, RUST_BACKTRACE="0", LPSPI_SEED="1", LPSPI_COUNT="1")
+    env.setdefault("CARGO_TARGET_DIR", os.path.join(HOST, "target/mutations"))
+    test = ["cargo", "test", "--quiet", "--locked", "--offline", "--manifest-path", HOST + "/Cargo.toml", "--test", "original", "--", "port::", "--show-output"]
     for number, (name, change) in enumerate(MUTATIONS):
         if only and number not in only:
             continue
@@ -92,13 +118,12 @@ with tempfile.TemporaryDirectory() as folder:
         assert (mutant == text) == (number == 0), name
         with open(path, "w") as file:
             file.write(mutant)
-        out = subprocess.run(test, env=env, text=True, capture_output=True)
-        built = "test result" in out.stdout
-        passed = out.returncode == 0
-        seen = sorted({line.split()[0] for line in out.stdout.splitlines() if line.startswith("    port")})
-        right = built and passed == (number == 0)
+        out = subprocess.run(test, env=env, text=True, errors="replace", capture_output=True)
+        (random, randoms), (directed, directeds) = (differing(out.stdout, kind) for kind in (False, True))
+        built, passed = randoms * directeds > 0, out.returncode == 0
+        right = built and passed == (random + directed == 0) == (number == 0)
         wrong += not right
-        what = "does not build" if not built else "passes" if passed else "seen by " + " ".join(seen)
+        what = f"{random} of {randoms} random and {directed} of {directeds} directed cases" if built else "does not build"
         print(f"{number:2} {name}: {what}{'' if right else '  <-- not as it should be'}", flush=True)
 print("not as they should be:", wrong)
 sys.exit(wrong > 0)

@@ -1,9 +1,9 @@
-//! Finds the original and hands it to the compiler with one line more.
+//! Finds the original and hands it to the compiler with two lines more.
 //!
 //! The source is the file that `LPSPI_ORIGINAL` names (a relative path starts at
-//! this package), otherwise the one in `../shared` beside the repository. The line
-//! declares a child module: only there can the private functions be called. It also
-//! gives the doc comment that ends the published file an item to belong to.
+//! this package), otherwise the one in `../shared` beside the repository. The lines
+//! declare child modules: only there can the private functions be called. They also
+//! give the doc comment that ends the published file an item to belong to.
 //!
 //! Without the source the crate is built with no driver, but not where `CI` is
 //! `true`.
@@ -27,7 +27,7 @@ fn main() {
     let out = PathBuf::from(env::var_os("OUT_DIR").expect("set by cargo"));
     match fs::read_to_string(&source) {
         Ok(text) => {
-            write_modules(&text, &package.join("src/calls.rs"), &out).expect("OUT_DIR is writable");
+            write_modules(text, &package.join("src"), &out).expect("OUT_DIR is writable");
             println!("cargo::rustc-cfg=original");
         }
         Err(error) if env::var("CI").is_ok_and(|ci| ci == "true") => println!(
@@ -40,8 +40,11 @@ fn main() {
 
 /// Writes `lpspi.rs`, and `modules.rs` to include: an included file may not begin
 /// with inner doc comments, as the original does, but a module's file may.
-fn write_modules(original: &str, calls: &Path, out: &Path) -> io::Result<()> {
-    let line = format!("#[path = {calls:?}] pub(crate) mod calls;\n");
-    fs::write(out.join("lpspi.rs"), original.to_owned() + &line)?;
+fn write_modules(mut original: String, src: &Path, out: &Path) -> io::Result<()> {
+    for child in ["calls", "words"] {
+        let path = src.join(child).with_extension("rs");
+        original += &format!("#[path = {path:?}] pub(crate) mod {child};\n");
+    }
+    fs::write(out.join("lpspi.rs"), original)?;
     fs::write(out.join("modules.rs"), "#[allow(dead_code)]\nmod lpspi;\n")
 }

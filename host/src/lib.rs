@@ -13,8 +13,6 @@ mod calls;
 mod disabled;
 mod driver;
 mod ffi;
-pub mod original_runs;
-pub mod original_shape;
 pub mod raw;
 pub mod reference;
 mod transfers;

@@ -21,7 +21,7 @@ fn check_command(random: &mut Random, command: &Command) -> bool {
     let number = raw::command(command, &mut word);
     assert_eq!((number, word), expected(answer, found), "{command:?}");
     assert_eq!(lpspi_host::command(command), answer, "{command:?}");
-    random.case();
+    random.cases.count();
     answer.is_ok()
 }
 
@@ -79,7 +79,7 @@ fn check_clock(random: &mut Random, source: u32, wanted: u32) {
     let case = format_args!("source {source}, clock {wanted}").to_string();
     assert_eq!((number, word), expected(answer, found), "{case}");
     assert_eq!(lpspi_host::clock(source, wanted), answer, "{case}");
-    random.case();
+    random.cases.count();
 }
 
 #[test]
@@ -140,7 +140,7 @@ fn pack_one_word() {
                 let case = format!("{order:?} {bytes:02X?}");
                 assert_eq!((number, word), expected(answer, found), "{case}");
                 assert_eq!(lpspi_host::pack_u8(order, &bytes), answer, "{case}");
-                random.case();
+                random.cases.count();
             }
         }
     }
@@ -182,7 +182,7 @@ fn unpack_one_word() {
                         |bytes| right = reference::unpack_u8(order, word, count, bytes),
                     );
                     assert_eq!(left, right, "{case}");
-                    random.case();
+                    random.cases.count();
                 }
             }
         }
@@ -202,7 +202,7 @@ fn check_pack_words(random: &mut Random, bytes: &[u8], total: usize, words_len: 
             |words| lpspi_host::pack_words_u8(order, bytes, total, words),
             |words| reference::pack_words_u8(order, bytes, total, words),
         );
-        random.case();
+        random.cases.count();
     }
 }
 
@@ -219,7 +219,7 @@ fn check_unpack_words(random: &mut Random, words: &[u32], total: usize, len: usi
             |bytes| lpspi_host::unpack_words_u8(order, words, total, bytes),
             |bytes| reference::unpack_words_u8(order, words, total, bytes),
         );
-        random.case();
+        random.cases.count();
     }
 }
 

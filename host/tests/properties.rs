@@ -28,7 +28,7 @@ fn one_word_there_and_back() {
                 unpack_u8(order, word, count, &mut back).unwrap();
                 let again = pack_u8(order, &back);
                 assert_eq!(again, Ok(low_elements(word, count)), "{order:?} {word:08X}");
-                random.case();
+                random.cases.count();
             }
         }
     }
@@ -48,7 +48,7 @@ fn buffers_there_and_back() {
                 unpack_words_u8(order, &words, total, &mut back);
                 assert_eq!(back[..len], bytes, "{order:?} total {total}");
                 assert_eq!(back[len..], vec![0xFF; dummies], "{order:?} total {total}");
-                random.case();
+                random.cases.count();
             }
         }
     }
@@ -69,7 +69,7 @@ fn words_there_and_back() {
                     *last = low_elements(*last, total % 4);
                 }
                 assert_eq!(back, words, "{order:?} total {total}");
-                random.case();
+                random.cases.count();
             }
         }
     }
@@ -85,7 +85,7 @@ fn buffer_words_are_single_words() {
             pack_words_u8(order, &bytes, len, &mut words);
             for (word, chunk) in words.iter().zip(bytes.chunks(4)) {
                 assert_eq!(pack_u8(order, chunk), Ok(*word), "{order:?} {chunk:02X?}");
-                random.case();
+                random.cases.count();
             }
         }
     }
@@ -103,7 +103,7 @@ fn orders_mirror_each_other() {
                 pack_u8(Lsb, &reversed),
                 "{bytes:02X?}"
             );
-            random.case();
+            random.cases.count();
         }
     }
 }
@@ -122,7 +122,7 @@ fn clock_bound() {
         let reachable = u64::from(source) <= 256 * u64::from(wanted);
         assert_eq!(bounded, reachable, "source {source}, clock {wanted}");
         *(if bounded { &mut within } else { &mut over }) += 1;
-        random.case();
+        random.cases.count();
     }
     assert!(within > 0 && over > 0, "both sides of the bound must occur");
 }

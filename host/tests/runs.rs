@@ -1,20 +1,14 @@
-//! Runs: the scope document's example, refusals, the bound on accesses, and the
-//! proved runs against `original_runs`.
+//! Runs: the scope document's example, refusals and the bound on accesses.
 
 mod common;
 
-use common::compare::{exchanges, flushes, found};
-use common::Random;
-use lpspi_host::{exchange_separate, flush, original_runs, raw, Driver, Element, Run};
+use common::run::{self, found};
+use lpspi_host::{exchange_separate, flush, raw, Driver, Element, Run};
 use std::fmt::Debug;
 
 /// The run as `buslog` prints it.
 fn listing(log: &[u32], read: &[u8], run: Run) -> String {
-    let mut lines = vec![];
-    for pair in log[..2 * run.accesses].chunks(2) {
-        let kind = if pair[0] < 0x1000 { 'R' } else { 'W' };
-        lines.push(format!("{kind} {:02X} {:08X}", pair[0] % 0x1000, pair[1]));
-    }
+    let mut lines = run::listing(&log[..2 * run.accesses]);
     lines.extend(read.iter().map(|byte| format!("{byte:02X}")));
     let Run {
         accesses, answers, ..
@@ -186,43 +180,4 @@ fn flush_sees_the_receive_error_first() {
         let given = (run.number(), run.accesses, run.answers);
         assert_eq!(given, (number, accesses, accesses), "{script:X?}");
     }
-}
-
-#[test]
-fn exchanges_of_bytes() {
-    let mut random = Random::new("exchanges_of_bytes");
-    exchanges(
-        &mut random,
-        |random| random.word() as u8,
-        exchange_separate,
-        original_runs::exchange_separate,
-    );
-}
-
-#[test]
-fn exchanges_of_halves() {
-    let mut random = Random::new("exchanges_of_halves");
-    exchanges(
-        &mut random,
-        |random| random.word() as u16,
-        exchange_separate,
-        original_runs::exchange_separate,
-    );
-}
-
-#[test]
-fn exchanges_of_words() {
-    let mut random = Random::new("exchanges_of_words");
-    exchanges(
-        &mut random,
-        Random::word,
-        exchange_separate,
-        original_runs::exchange_separate,
-    );
-}
-
-#[test]
-fn flushes_of_both() {
-    let mut random = Random::new("flushes");
-    flushes(&mut random, flush, original_runs::flush);
 }

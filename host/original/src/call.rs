@@ -34,6 +34,23 @@ pub struct ClockConfigs {
     pub sckdiv: u8,
 }
 
+/// The settings of a command.
+#[derive(Debug, Clone, Copy, PartialEq, Eq, Default)]
+#[allow(missing_docs)]
+pub struct Command {
+    pub frame_size: u16,
+    pub byte_swap: bool,
+    pub lsb: bool,
+    pub receive_mask: bool,
+    pub transmit_mask: bool,
+    pub continuous: bool,
+    pub continuing: bool,
+    /// Taken modulo 4.
+    pub mode: u8,
+    /// Taken modulo 4.
+    pub pcs: u8,
+}
+
 /// A transfer of elements of type `W`.
 #[derive(Debug)]
 pub enum Transfer<'a, W> {
@@ -99,8 +116,11 @@ pub enum Call<'a> {
     FifoStatus,
     ReadData,
     EnqueueData(u32),
-    /// The word of the `Transaction`.
-    EnqueueTransaction(u32),
+    /// Of a `Transaction` of so many bits, with the driver's bit order, mode and chip
+    /// select.
+    EnqueueTransaction {
+        frame_size: u32,
+    },
     SetClockHz {
         source_hz: u32,
         clock_hz: u32,

@@ -7,19 +7,12 @@ use super::{
 };
 use crate::call::{self, Call, Driver, Failure, FifoStatus, Transfer, Value};
 
-const MODES: [Mode; 4] = [MODE_0, MODE_1, MODE_2, MODE_3];
-const CHIP_SELECTS: [Pcs; 4] = [Pcs::Pcs0, Pcs::Pcs1, Pcs::Pcs2, Pcs::Pcs3];
-
 /// A driver of the given value.
 pub(crate) fn with_value(lpspi: AnyInstance, value: Driver) -> Lpspi {
     Lpspi {
         lpspi,
-        bit_order: if value.lsb {
-            BitOrder::Lsb
-        } else {
-            BitOrder::Msb
-        },
-        mode: MODES[usize::from(value.mode % 4)],
+        bit_order: bit_order(value.lsb),
+        mode: mode(value.mode),
         ccr_cache: CcrCache {
             dbt: value.dbt,
             sckdiv: value.sckdiv,
@@ -55,7 +48,10 @@ pub(crate) fn call(spi: &mut Lpspi, call: Call) -> Result<Value, Failure> {
         Call::SetEnable(enable) => spi.set_enable(enable),
         Call::ClearFifo(direction) => spi.clear_fifo(side(direction)),
         Call::EnqueueData(word) => spi.enqueue_data(word),
-        Call::EnqueueTransaction(word) => spi.enqueue_transaction(Transaction(word)),
+        Call::EnqueueTransaction { frame_size } => {
+            let transaction = transaction(spi, frame_size)?;
+            spi.enqueue_transaction(transaction);
+        }
         Call::SetClockHz {
             source_hz,
             clock_hz,
@@ -90,6 +86,16 @@ fn transfer<W: Word>(spi: &mut Lpspi, buffers: Transfer<W>) -> Result<(), LpspiE
     }
 }
 
+/// Made as `bus_transaction` makes the one of a buffer.
+fn transaction(spi: &Lpspi, frame_size: u32) -> Result<Transaction, LpspiError> {
+    let frame_size = u16::try_from(frame_size).map_err(|_| LpspiError::FrameSize)?;
+    let mut transaction = Transaction::new(frame_size)?;
+    transaction.set_bit_order(spi.bit_order());
+    transaction.set_mode(spi.mode);
+    transaction.set_pcs(spi.pcs);
+    Ok(transaction)
+}
+
 fn fifo_status(spi: &Lpspi) -> FifoStatus {
     let status = spi.fifo_status();
     FifoStatus {
@@ -107,8 +113,26 @@ fn side(direction: call::Direction) -> Direction {
     }
 }
 
-fn chip_select(number: u8) -> Pcs {
-    CHIP_SELECTS[usize::from(number % 4)]
+pub(super) fn bit_order(lsb: bool) -> BitOrder {
+    if lsb { BitOrder::Lsb } else { BitOrder::Msb }
+}
+
+pub(super) fn mode(number: u8) -> Mode {
+    match number % 4 {
+        0 => MODE_0,
+        1 => MODE_1,
+        2 => MODE_2,
+        _ => MODE_3,
+    }
+}
+
+pub(super) fn chip_select(number: u8) -> Pcs {
+    match number % 4 {
+        0 => Pcs::Pcs0,
+        1 => Pcs::Pcs1,
+        2 => Pcs::Pcs2,
+        _ => Pcs::Pcs3,
+    }
 }
 
 fn polarity(active_high: bool) -> PcsPolarity {

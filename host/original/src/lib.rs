@@ -3,7 +3,8 @@
 //!
 //! [`run`] makes one call of the driver. A read takes the next answer of the
 //! script; the log has two words for each access: the register's offset, plus
-//! 0x1000 for a write, and the value.
+//! 0x1000 for a write, and the value. Commands, clocks and packing can also be had
+//! by themselves.
 //!
 //! The source is not part of the repository: see `build.rs`. What it uses has
 //! stand-ins: `hal`, `ral` and `iomuxc` here, other crates in `stand-ins`.
@@ -15,6 +16,9 @@ mod call;
 mod hal;
 #[cfg(original)]
 mod iomuxc;
+#[cfg(not(original))]
+#[allow(missing_docs)]
+mod missing;
 #[cfg(original)]
 mod ral;
 #[cfg(original)]
@@ -30,19 +34,18 @@ include!(concat!(env!("OUT_DIR"), "/modules.rs"));
 use hal::{AnyInstance, into_any, spin_on};
 
 pub use call::{
-    Call, ClockConfigs, Direction, Driver, Element, Failure, FifoStatus, Outcome, Transfer, Value,
+    Call, ClockConfigs, Command, Direction, Driver, Element, Failure, FifoStatus, Outcome,
+    Transfer, Value,
 };
+#[cfg(original)]
+pub use lpspi::words::{clock_word, command_word, pack_words, unpack_words};
+#[cfg(not(original))]
+pub use missing::{clock_word, command_word, pack_words, run, unpack_words};
 #[cfg(original)]
 pub use run::run;
 
 /// The path of the source.
 pub const SOURCE: &str = env!("LPSPI_SOURCE");
 
-/// Whether the source was there. If not, `run` panics.
+/// Whether the source was there. If not, the functions panic.
 pub const AVAILABLE: bool = cfg!(original);
-
-/// There is no driver to run.
-#[cfg(not(original))]
-pub fn run(_: Call, _: Driver, _: usize, _: &[u32], _: &mut [u32]) -> Outcome {
-    panic!("built without the original, {SOURCE}")
-}

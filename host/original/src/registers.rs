@@ -1,7 +1,12 @@
 //! The register block: a script of answers, a log of accesses and a budget.
+//!
+//! Made for the benchmark: pointers are faster than places in slices, and a block
+//! that is not aligned is faster or slower by where the stack begins.
 
 use crate::ral::{RORegister, WORegister};
 use std::cell::Cell;
+use std::marker::PhantomData;
+use std::ops::Range;
 use std::panic::resume_unwind;
 use std::thread;
 
@@ -10,12 +15,17 @@ pub struct Stopped;
 
 /// Answers reads from a script and logs every access.
 #[allow(non_snake_case)]
+#[repr(align(64))]
 pub struct Registers<'a> {
-    script: &'a [u32],
-    /// A place for each access of the budget; none once the run has stopped.
-    log: Cell<&'a [Cell<[u32; 2]>]>,
-    accesses: Cell<usize>,
-    answers: Cell<usize>,
+    /// The next place, one for each access of the budget.
+    place: Cell<*mut [u32; 2]>,
+    /// The end of the places; once the run has stopped, the next place.
+    end: Cell<*mut [u32; 2]>,
+    /// The next answer.
+    answer: Cell<*const u32>,
+    log: *mut [u32; 2],
+    script: Range<*const u32>,
+    _buffers: PhantomData<(&'a [u32], &'a mut [u32])>,
     // The driver hands out the addresses of these two, for DMA.
     pub RDR: RORegister<u32>,
     pub TDR: WORegister<u32>,
@@ -27,12 +37,16 @@ impl<'a> Registers<'a> {
         let (log, _) = log.as_chunks_mut();
         let places = log
             .get_mut(..budget)
-            .expect("the log has room for the budget");
+            .expect("the log has room for the budget")
+            .as_mut_ptr_range();
+        let script = script.as_ptr_range();
         Self {
+            place: Cell::new(places.start),
+            end: Cell::new(places.end),
+            answer: Cell::new(script.start),
+            log: places.start,
             script,
-            log: Cell::new(Cell::from_mut(places).as_slice_of_cells()),
-            accesses: Cell::new(0),
-            answers: Cell::new(0),
+            _buffers: PhantomData,
             RDR: RORegister::default(),
             TDR: WORegister::default(),
         }
@@ -40,40 +54,43 @@ impl<'a> Registers<'a> {
 
     /// Accesses made.
     pub fn accesses(&self) -> usize {
-        self.accesses.get()
+        // Safety: both are in the log, and `place` only goes up.
+        unsafe { self.place.get().offset_from_unsigned(self.log) }
     }
 
     /// Answers used.
     pub fn answers(&self) -> usize {
-        self.answers.get()
+        // Safety: both are in the script, and `answer` only goes up.
+        unsafe { self.answer.get().offset_from_unsigned(self.script.start) }
     }
 
     #[inline(always)]
     pub fn read(&self, address: u32) -> u32 {
-        let (accesses, answers) = (self.accesses.get(), self.answers.get());
-        match (self.log.get().get(accesses), self.script.get(answers)) {
-            (Some(place), Some(&value)) => {
-                place.set([address, value]);
-                self.accesses.set(accesses + 1);
-                self.answers.set(answers + 1);
-                value
-            }
-            _ => {
-                self.stop();
-                0
-            }
+        let (place, answer) = (self.place.get(), self.answer.get());
+        if place == self.end.get() || answer == self.script.end {
+            self.stop();
+            return 0;
+        }
+        // Safety: neither is at its end, and each goes up by one.
+        unsafe {
+            let value = answer.read();
+            place.write([address, value]);
+            self.place.set(place.add(1));
+            self.answer.set(answer.add(1));
+            value
         }
     }
 
     #[inline(always)]
     pub fn write(&self, address: u32, value: u32) {
-        let accesses = self.accesses.get();
-        match self.log.get().get(accesses) {
-            Some(place) => {
-                place.set([0x1000 + address, value]);
-                self.accesses.set(accesses + 1);
-            }
-            None => self.stop(),
+        let place = self.place.get();
+        if place == self.end.get() {
+            return self.stop();
+        }
+        // Safety: `place` is not at its end, and goes up by one.
+        unsafe {
+            place.write([0x1000 + address, value]);
+            self.place.set(place.add(1));
         }
     }
 
@@ -82,7 +99,7 @@ impl<'a> Registers<'a> {
     #[cold]
     #[inline(never)]
     fn stop(&self) {
-        self.log.set(&[]);
+        self.end.set(self.place.get());
         if !thread::panicking() {
             resume_unwind(Box::new(Stopped));
         }

@@ -1,12 +1,21 @@
-//! Random values for the tests.
+//! What the tests share: random values, comparisons of runs, and whether the original
+//! is here.
 
 // Each test file uses only a part.
 #![allow(dead_code)]
 
-pub mod compare;
+pub mod branches;
+pub mod cases;
+pub mod random_runs;
+pub mod registers;
+pub mod run;
+pub mod transfer;
+pub mod walk;
 
+use cases::Cases;
 use lpspi_host::{BitOrder, Command};
-use std::sync::OnceLock;
+use std::io::{stderr, Write};
+use std::sync::{Once, OnceLock};
 use std::time::{SystemTime, UNIX_EPOCH};
 
 /// The seed of this run: `LPSPI_SEED` if set, else the time.
@@ -21,11 +30,10 @@ fn seed() -> u64 {
     })
 }
 
-/// A xorshift generator that also counts the cases of its test.
+/// A xorshift generator, with the cases of its test.
 pub struct Random {
-    test: &'static str,
     state: u64,
-    cases: u64,
+    pub cases: Cases,
 }
 
 impl Random {
@@ -36,15 +44,9 @@ impl Random {
         // The state must not be 0.
         let state = (seed ^ 0x9E37_79B9_7F4A_7C15).max(1);
         Self {
-            test,
             state,
-            cases: 0,
+            cases: Cases::new(test),
         }
-    }
-
-    /// Counts one case.
-    pub fn case(&mut self) {
-        self.cases += 1;
     }
 
     fn next(&mut self) -> u64 {
@@ -106,13 +108,20 @@ impl Random {
     }
 }
 
-impl Drop for Random {
-    fn drop(&mut self) {
-        println!("{}: {} cases", self.test, self.cases);
-    }
-}
-
 /// Byte lengths around the word boundaries of small and large transfers.
 pub fn lengths() -> impl Iterator<Item = usize> + Clone {
     (0..=20).chain(60..=68).chain(124..=132).chain(508..=516)
+}
+
+/// Whether the original is here. If not, says so once.
+pub fn original_is_here() -> bool {
+    static SAID: Once = Once::new();
+    if !original::AVAILABLE {
+        SAID.call_once(|| {
+            // The macros' output does not show where a test passes.
+            let line = format!("not compared with the original: no {}\n", original::SOURCE);
+            stderr().write_all(line.as_bytes()).unwrap();
+        });
+    }
+    original::AVAILABLE
 }

@@ -94,7 +94,7 @@ fn other_calls() {
         (Call::ReadData, &[2], Value::Data(None), "R 70 00000002"),
         (Call::EnqueueData(7), &[], Value::Unit, "W 64 00000007"),
         (
-            Call::EnqueueTransaction(0xC280_0027),
+            Call::EnqueueTransaction { frame_size: 40 },
             &[],
             Value::Unit,
             "W 60 C2800027",

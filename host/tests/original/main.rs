@@ -7,13 +7,11 @@ mod calls;
 mod common;
 mod differences;
 mod port;
-mod port_calls;
 mod transfers;
 
-use common::compare::found;
+use common::original_is_here;
+use common::run::{found, listing};
 use original::{run, Call, Driver, Outcome};
-use std::io::{stderr, Write};
-use std::sync::Once;
 
 /// A driver none of whose settings is the starting one.
 const SET: Driver = Driver {
@@ -23,29 +21,6 @@ const SET: Driver = Driver {
     dbt: 0x12,
     sckdiv: 0x34,
 };
-
-/// Whether the original is here. If not, says so once.
-fn original_is_here() -> bool {
-    static SAID: Once = Once::new();
-    if !original::AVAILABLE {
-        SAID.call_once(|| {
-            // The macros' output does not show where a test passes.
-            let line = format!("not compared with the original: no {}\n", original::SOURCE);
-            stderr().write_all(line.as_bytes()).unwrap();
-        });
-    }
-    original::AVAILABLE
-}
-
-/// The accesses as `buslog` prints them.
-fn listing(log: &[u32]) -> Vec<String> {
-    log.chunks(2)
-        .map(|pair| {
-            let kind = if pair[0] < 0x1000 { 'R' } else { 'W' };
-            format!("{kind} {:02X} {:08X}", pair[0] % 0x1000, pair[1])
-        })
-        .collect()
-}
 
 /// Makes a call that leaves the log past its accesses as found, and lists them.
 fn listed(call: Call, driver: Driver, budget: usize, script: &[u32]) -> (Outcome, Vec<String>) {

@@ -1,0 +1,257 @@
+//! The other calls: the port's, by the numbers of the C functions, against the
+//! original's.
+
+mod branches;
+mod directed;
+mod random;
+
+use super::{driver_number, original_driver, refused};
+use crate::common::branches::{Table, RECOVERY};
+use crate::common::registers::PARAM;
+use crate::common::run::{found, Left, Limits};
+use lpspi_host::{raw, Driver};
+use original::{run, Call, ClockConfigs, Direction, Failure, Outcome, Value};
+use std::fmt::{self, Debug, Formatter};
+
+/// The C function of a call.
+#[derive(Debug, Clone, Copy)]
+enum Function {
+    Reset,
+    Set,
+    Disabled,
+    Get,
+}
+
+/// A call.
+struct Entry {
+    name: &'static str,
+    function: Function,
+    /// Its number there.
+    kind: u32,
+    accesses: Table,
+    /// The original's, of the parameters.
+    call: fn(u32, u32) -> Call<'static>,
+}
+
+impl Debug for Entry {
+    fn fmt(&self, f: &mut Formatter<'_>) -> fmt::Result {
+        f.write_str(self.name)
+    }
+}
+
+const fn entry(
+    name: &'static str,
+    (function, kind): (Function, u32),
+    accesses: Table,
+    call: fn(u32, u32) -> Call<'static>,
+) -> Entry {
+    Entry {
+        name,
+        function,
+        kind,
+        accesses,
+        call,
+    }
+}
+
+/// Every call.
+const CALLS: [Entry; 19] = {
+    use Function::*;
+    // A recovery without its last write.
+    let soft_reset = RECOVERY.split_at(RECOVERY.len() - 1).0;
+    [
+        entry("soft_reset", (Reset, 0), soft_reset, |_, _| Call::SoftReset),
+        entry("recover_from_error", (Reset, 1), RECOVERY, |_, _| {
+            Call::RecoverFromError
+        }),
+        entry("init", (Reset, 2), "RWMRWRWWRWW", |_, _| Call::Init),
+        entry("clear_status", (Set, 0), "W", |a, _| Call::ClearStatus(a)),
+        entry("set_enable", (Set, 1), "RW", |a, _| Call::SetEnable(odd(a))),
+        entry("clear_fifo", (Set, 2), "RW", |a, _| {
+            Call::ClearFifo(direction(a))
+        }),
+        entry("enqueue_data", (Set, 3), "W", |a, _| Call::EnqueueData(a)),
+        entry("enqueue_transaction", (Set, 4), "W", |frame_size, _| {
+            Call::EnqueueTransaction { frame_size }
+        }),
+        entry("set_clock_hz", (Disabled, 0), "RRWMWRW", |a, b| {
+            let (source_hz, clock_hz) = (a, b);
+            Call::SetClockHz {
+                source_hz,
+                clock_hz,
+            }
+        }),
+        entry("set_clock_configs", (Disabled, 1), "RRWMWRW", |a, _| {
+            let [sckdiv, dbt, pcssck, sckpcs] = a.to_le_bytes();
+            Call::SetClockConfigs(ClockConfigs {
+                sckpcs,
+                pcssck,
+                dbt,
+                sckdiv,
+            })
+        }),
+        entry("set_sample_point", (Disabled, 2), "RRWMRWRW", |a, _| {
+            Call::SetSamplePoint { delayed: odd(a) }
+        }),
+        entry(
+            "set_peripheral_enable",
+            (Disabled, 3),
+            "RRWMRWRW",
+            |a, _| Call::SetPeripheralEnable(odd(a)),
+        ),
+        entry(
+            "set_chip_select_polarity",
+            (Disabled, 4),
+            "RRWMRRWRW",
+            |a, b| Call::SetChipSelectPolarity {
+                pcs: (a % 4) as u8,
+                active_high: odd(b),
+            },
+        ),
+        entry("watermark", (Get, 0), "R", |a, _| {
+            Call::Watermark(direction(a))
+        }),
+        entry("set_watermark", (Get, 1), "RRW", |a, b| {
+            Call::SetWatermark(direction(a), b as u8)
+        }),
+        entry("status", (Get, 2), "R", |_, _| Call::Status),
+        entry("is_enabled", (Get, 3), "R", |_, _| Call::IsEnabled),
+        entry("fifo_status", (Get, 4), "RR", |_, _| Call::FifoStatus),
+        entry("read_data", (Get, 5), "RR", |_, _| Call::ReadData),
+    ]
+};
+
+fn odd(parameter: u32) -> bool {
+    parameter % 2 == 1
+}
+
+fn direction(parameter: u32) -> Direction {
+    match odd(parameter) {
+        true => Direction::Rx,
+        false => Direction::Tx,
+    }
+}
+
+/// A call with its parameters and limits.
+#[derive(Debug)]
+struct Case {
+    entry: &'static Entry,
+    a: u32,
+    b: u32,
+    driver: Driver,
+    limits: Limits,
+}
+
+impl Case {
+    /// What the port leaves.
+    fn port(&self) -> Left<u8> {
+        let Self {
+            a, b, ref limits, ..
+        } = *self;
+        let (kind, budget, script) = (self.entry.kind, limits.budget, &limits.script[..]);
+        let (mut driver, mut log) = (self.driver.number(), found(limits.log_len));
+        // What is given is given over these.
+        let (mut accesses, mut answers) = (7, 7);
+        let mut value = match self.entry.function {
+            Function::Get => 7,
+            _ => 0,
+        };
+        let (d, l, m, n) = (&mut driver, &mut log[..], &mut accesses, &mut answers);
+        let number = match self.entry.function {
+            Function::Reset => raw::reset(kind, d, budget, script, l, m, n),
+            Function::Set => raw::set(kind, a, d, budget, script, l, m, n),
+            Function::Disabled => raw::disabled(kind, a, b, d, budget, script, l, m, n),
+            Function::Get => raw::get(kind, a, b, d, budget, script, l, m, n, &mut value),
+        };
+        Left {
+            number,
+            driver,
+            accesses,
+            answers,
+            value,
+            buffer: vec![],
+            log,
+        }
+    }
+
+    fn call(&self) -> Call<'static> {
+        (self.entry.call)(self.a, self.b)
+    }
+
+    fn original(&self, budget: usize, log: &mut [u32]) -> Outcome {
+        let driver = original_driver(self.driver);
+        run(self.call(), driver, budget, &self.limits.script, log)
+    }
+
+    /// The number that the scope document gives before the first access.
+    fn refusal(&self) -> Option<u32> {
+        let call = self.call();
+        // The command is made before the run: 1 comes before 5.
+        if matches!(call, Call::EnqueueTransaction { .. })
+            && self.original(0, &mut []).result == Err(Failure::FrameSize)
+        {
+            return Some(1);
+        }
+        if self.limits.refused() {
+            return Some(5);
+        }
+        let zero = matches!(call, Call::SetClockHz { .. }) && (self.a == 0 || self.b == 0);
+        zero.then_some(6)
+    }
+
+    /// The exponent that the scope document checks in PARAM.
+    fn exponent(&self, param: u32) -> Option<u32> {
+        match self.call() {
+            Call::Init | Call::SetWatermark(Direction::Tx, _) => Some(param & 0xFF),
+            Call::SetWatermark(Direction::Rx, _) => Some(param >> 8 & 0xFF),
+            _ => None,
+        }
+    }
+
+    /// What the run leaves as the scope document has it: the original's, with numbers
+    /// 5, 6 and 7, no value but with 0, and `init`'s driver value.
+    fn judged(&self) -> Left<u8> {
+        if let Some(number) = self.refusal() {
+            return refused(number, self.driver, &self.limits);
+        }
+        let mut log = found(self.limits.log_len);
+        let mut outcome = self.original(self.limits.budget, &mut log);
+        let mut number = outcome.number();
+        let mut made = log[..2 * outcome.accesses].chunks(2);
+        let over = |param| self.exponent(param).is_some_and(|exponent| exponent > 4);
+        if let Some(place) = made.position(|pair| pair[0] == PARAM && over(pair[1])) {
+            // The original goes on or panics there; up to there both are the same.
+            log = found(self.limits.log_len);
+            outcome = self.original(place + 1, &mut log);
+            number = Some(7);
+        }
+        Left {
+            number: number.expect("the original did not panic"),
+            driver: match self.call() {
+                Call::Init => Driver::default().number(),
+                _ => driver_number(outcome.driver),
+            },
+            accesses: outcome.accesses,
+            answers: outcome.answers,
+            value: match outcome.result {
+                Ok(value) if number == Some(0) => number_of(value),
+                _ => 0,
+            },
+            buffer: vec![],
+            log,
+        }
+    }
+}
+
+fn number_of(value: Value) -> u64 {
+    match value {
+        Value::Unit => 0,
+        Value::Enabled(enabled) => enabled.into(),
+        Value::Level(level) => level.into(),
+        Value::Status(bits) => bits.into(),
+        Value::FifoStatus(fifo) => [fifo.txcap, fifo.rxcap, fifo.txcount, fifo.rxcount]
+            .iter()
+            .fold(0, |number, part| number << 16 | u64::from(*part)),
+        Value::Data(word) => word.map_or(0, |word| 1 << 32 | u64::from(word)),
+    }
+}

@@ -1,0 +1,85 @@
+//! Random calls.
+
+use super::branches::Branch;
+use super::{Case, CALLS};
+use crate::common::cases::Tally;
+use crate::common::run::{Limits, MAX_BUDGET};
+use crate::common::Random;
+use crate::original_is_here;
+use lpspi_host::Driver;
+
+impl Case {
+    fn random(random: &mut Random) -> Self {
+        let entry = &CALLS[random.below(CALLS.len())];
+        let mut parameter = || match random.below(4) {
+            0 => random.below(3) as u32,
+            1 => random.below(4_200) as u32,
+            _ => random.word(),
+        };
+        let (mut a, b) = (parameter(), parameter());
+        if entry.name == "enqueue_transaction" && random.chance(192) {
+            a = 8 + random.below(4_089) as u32;
+        }
+        let driver = Driver {
+            bit_order: random.order(),
+            mode: random.word() % 4,
+            pcs: random.word() % 4,
+            dbt: random.word() as u8,
+            sckdiv: random.word() as u8,
+        };
+        // MEN mostly 0, so that waits end, and small exponents in most places.
+        let any_men = [32, 32, 32, 256][random.below(4)];
+        let small = random.flag();
+        let answer = |random: &mut Random| {
+            let word = random.word() & if random.chance(any_men) { !0 } else { !1 };
+            if small {
+                word & 0xFFFF_0404
+            } else {
+                word
+            }
+        };
+        let script = (0..random.below(40)).map(|_| answer(random)).collect();
+        let budget = match random.below(40) {
+            0 => MAX_BUDGET + 1,
+            1..5 => random.below(4),
+            5..20 => random.below(40),
+            _ => 60,
+        };
+        let log_len = match random.below(20) {
+            0 => (2 * budget).saturating_sub(1 + random.below(3)),
+            _ => 2 * budget + random.below(5),
+        };
+        Self {
+            entry,
+            a,
+            b,
+            driver,
+            limits: Limits {
+                budget,
+                log_len,
+                script,
+            },
+        }
+    }
+}
+
+/// Every branch must be reached, but for the places of stops.
+#[test]
+fn calls_of_both() {
+    if !original_is_here() {
+        return;
+    }
+    let mut random = Random::new("original: calls");
+    let mut tally = Tally::new(Branch::all());
+    for _ in 0..60_000 {
+        let case = Case::random(&mut random);
+        let left = case.port();
+        random.cases.compare(&case, &left, || case.judged());
+        tally.count(Branch::of(&case, &left));
+    }
+    tally.demand(&"calls", |branch| match branch {
+        Branch::Stopped(..) => 0,
+        Branch::Waited(..) => 1,
+        _ => 20,
+    });
+}

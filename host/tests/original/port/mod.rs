@@ -1,0 +1,115 @@
+//! The port against the original.
+
+mod calls;
+mod directed;
+mod flush;
+mod random;
+mod script;
+mod stops;
+
+use crate::common::run::{found, Left, Limits, MAX_BUDGET};
+use crate::common::transfer::{self, Kind, Transfer};
+use lpspi_host::{BitOrder, Driver};
+use original::{run, Call};
+
+/// An element of buffers of both sides.
+trait Element: transfer::Element + original::Element {}
+
+impl<W: transfer::Element + original::Element> Element for W {}
+
+/// Budgets and lengths of the log that are refused.
+const REFUSED: [(usize, usize); 5] = [
+    (MAX_BUDGET, 2 * MAX_BUDGET - 1),
+    (MAX_BUDGET + 1, 2 * MAX_BUDGET + 1),
+    (MAX_BUDGET + 1, 2 * MAX_BUDGET + 2),
+    (12, 23),
+    (1, 1),
+];
+
+/// The driver of directed runs.
+const DRIVER: Driver = Driver {
+    bit_order: BitOrder::Lsb,
+    mode: 1,
+    pcs: 2,
+    dbt: 0x12,
+    sckdiv: 0x34,
+};
+
+/// The original's form of a driver value.
+fn original_driver(driver: Driver) -> original::Driver {
+    original::Driver {
+        lsb: driver.bit_order.is_lsb(),
+        mode: (driver.mode % 4) as u8,
+        pcs: (driver.pcs % 4) as u8,
+        dbt: driver.dbt,
+        sckdiv: driver.sckdiv,
+    }
+}
+
+/// The number of what a run leaves of the driver.
+fn driver_number(driver: original::Driver) -> u32 {
+    let original::Driver {
+        lsb,
+        mode,
+        pcs,
+        dbt,
+        sckdiv,
+    } = driver;
+    Driver {
+        bit_order: BitOrder::ALL[usize::from(lsb)],
+        mode: mode.into(),
+        pcs: pcs.into(),
+        dbt,
+        sckdiv,
+    }
+    .number()
+}
+
+/// All as found, with a number.
+fn refused<W>(number: u32, driver: Driver, limits: &Limits) -> Left<W> {
+    Left {
+        number,
+        driver: driver.number(),
+        accesses: 0,
+        answers: 0,
+        value: 0,
+        buffer: vec![],
+        log: found(limits.log_len),
+    }
+}
+
+/// A run without a value, as the scope document has it: the original's, once past
+/// number 5. The buffer is the caller's to add.
+fn judged<W>(call: Call, driver: Driver, limits: &Limits) -> Left<W> {
+    if limits.refused() {
+        return refused(5, driver, limits);
+    }
+    let (given, mut log) = (original_driver(driver), found(limits.log_len));
+    let outcome = run(call, given, limits.budget, &limits.script, &mut log);
+    Left {
+        number: outcome.number().expect("the original did not panic"),
+        driver: driver_number(outcome.driver),
+        accesses: outcome.accesses,
+        answers: outcome.answers,
+        value: 0,
+        buffer: vec![],
+        log,
+    }
+}
+
+fn judged_transfer<W: Element>(transfer: &Transfer<W>, limits: &Limits) -> Left<W> {
+    let (mut buffer, write) = (transfer.read.clone(), &transfer.write[..]);
+    let read = &mut buffer[..];
+    let call = W::call(match transfer.kind {
+        Kind::Separate => original::Transfer::ExchangeSeparate { read, write },
+        Kind::InPlace => original::Transfer::Exchange(read),
+        Kind::Write => original::Transfer::WriteNoRead(write),
+        Kind::Read => original::Transfer::ReadNoWrite(read),
+    });
+    let left = judged(call, transfer.driver, limits);
+    Left { buffer, ..left }
+}
+
+fn judged_flush(driver: Driver, limits: &Limits) -> Left<u8> {
+    judged(Call::Flush, driver, limits)
+}
