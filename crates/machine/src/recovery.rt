@@ -10,40 +10,98 @@ use manual::Register;
 // The transmit and the receive error.
 const ERRORS: u32 = 0x1800;
 
-const RECOVERY: [Move; 27] = [
+// The moves of a recovery: past the end the last one stands. As an array they would be put together at every access.
+pub(crate) fn recovery_move(place: usize) -> Move
+    ensures { λ r. ⌜ r ≡ recoveryMove place ⌝ }
+{
     // Backup registers, and the enabled state.
-    Move::Keep(Register::IER),
-    Move::Keep(Register::DER),
-    Move::Keep(Register::CFGR0),
-    Move::Keep(Register::CFGR1),
-    Move::Keep(Register::DMR0),
-    Move::Keep(Register::DMR1),
-    Move::KeepClock,
-    Move::Keep(Register::FCR),
-    Move::Keep(Register::CR),
+    if place == 0 {
+        return Move::Keep(Register::IER);
+    }
+    if place == 1 {
+        return Move::Keep(Register::DER);
+    }
+    if place == 2 {
+        return Move::Keep(Register::CFGR0);
+    }
+    if place == 3 {
+        return Move::Keep(Register::CFGR1);
+    }
+    if place == 4 {
+        return Move::Keep(Register::DMR0);
+    }
+    if place == 5 {
+        return Move::Keep(Register::DMR1);
+    }
+    if place == 6 {
+        return Move::KeepClock;
+    }
+    if place == 7 {
+        return Move::Keep(Register::FCR);
+    }
+    if place == 8 {
+        return Move::Keep(Register::CR);
+    }
     // Reset and disable.
-    Move::Look(Register::CR),
-    Move::Modify(Change::Reset),
-    Move::Wait,
-    Move::Look(Register::CR),
-    Move::Modify(Change::Release),
+    if place == 9 {
+        return Move::Look(Register::CR);
+    }
+    if place == 10 {
+        return Move::Modify(Change::Reset);
+    }
+    if place == 11 {
+        return Move::Wait;
+    }
+    if place == 12 {
+        return Move::Look(Register::CR);
+    }
+    if place == 13 {
+        return Move::Modify(Change::Release);
+    }
     // Reset FIFOs.
-    Move::Look(Register::CR),
-    Move::Modify(Change::ClearFifos),
+    if place == 14 {
+        return Move::Look(Register::CR);
+    }
+    if place == 15 {
+        return Move::Modify(Change::ClearFifos);
+    }
     // Restore settings, and the enabled state.
-    Move::Put(Register::IER),
-    Move::Put(Register::DER),
-    Move::Put(Register::CFGR0),
-    Move::Put(Register::CFGR1),
-    Move::Put(Register::DMR0),
-    Move::Put(Register::DMR1),
-    Move::Put(Register::CCR),
-    Move::Put(Register::FCR),
-    Move::Look(Register::CR),
-    Move::Modify(Change::Restore),
+    if place == 16 {
+        return Move::Put(Register::IER);
+    }
+    if place == 17 {
+        return Move::Put(Register::DER);
+    }
+    if place == 18 {
+        return Move::Put(Register::CFGR0);
+    }
+    if place == 19 {
+        return Move::Put(Register::CFGR1);
+    }
+    if place == 20 {
+        return Move::Put(Register::DMR0);
+    }
+    if place == 21 {
+        return Move::Put(Register::DMR1);
+    }
+    if place == 22 {
+        return Move::Put(Register::CCR);
+    }
+    if place == 23 {
+        return Move::Put(Register::FCR);
+    }
+    if place == 24 {
+        return Move::Look(Register::CR);
+    }
+    if place == 25 {
+        return Move::Modify(Change::Restore);
+    }
     // Clear the errors.
-    Move::Write(Register::SR, ERRORS),
-];
+    Move::Write(Register::SR, ERRORS)
+}
+
+// How many there are.
+const RECOVERY: usize = 27;
 
 // The moves of `soft_reset`: all but the last.
 const SOFT_RESET: usize = 26;
@@ -52,7 +110,7 @@ pub(crate) fn soft_reset_move(place: usize) -> Move
     ensures { λ r. ⌜ r ≡ moveAt softReset place ⌝ }
 {
     if place < SOFT_RESET {
-        RECOVERY[place]
+        recovery_move(place)
     } else {
         Move::End
     }
@@ -61,26 +119,15 @@ pub(crate) fn soft_reset_move(place: usize) -> Move
 pub(crate) fn recover_move(place: usize) -> Move
     ensures { λ r. ⌜ r ≡ moveAt recovery place ⌝ }
 {
-    if place < RECOVERY.len() {
-        RECOVERY[place]
+    if place < RECOVERY {
+        recovery_move(place)
     } else {
         Move::End
-    }
-}
-
-// The move of a transfer's recovery; past its end the last one stands.
-pub(crate) fn recovery_move(place: usize) -> Move
-    ensures { λ r. ⌜ r ≡ recoveryMove place ⌝ }
-{
-    if place < RECOVERY.len() {
-        RECOVERY[place]
-    } else {
-        Move::Write(Register::SR, ERRORS)
     }
 }
 
 pub(crate) fn is_recovered(sequence: Sequence) -> bool
     ensures { λ r. ⌜ r ≡ recovered sequence ⌝ }
 {
-    RECOVERY.len() <= sequence.place()
+    RECOVERY <= sequence.place()
 }
