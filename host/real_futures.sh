@@ -10,8 +10,10 @@ shift
 
 copy=$(mktemp -d)
 trap 'rm -r "$copy"' EXIT
-cp -r "$host"/{Cargo.toml,build.rs,benches,original,src,tests} "$copy"
-cd "$copy"
+mkdir "$copy/host"
+cp -r "$host"/{Cargo.toml,build.rs,benches,original,src,tests} "$copy/host"
+ln -s "$host/../crates" "$copy/crates"
+cd "$copy/host"
 rm -r original/stand-ins/futures
 sed -i 's/^futures = .*/futures = { version = "0.3", default-features = false }/' original/Cargo.toml
 mkdir .cargo

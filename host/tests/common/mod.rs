@@ -41,6 +41,11 @@ impl Random {
     pub fn new(test: &'static str) -> Self {
         let seed = seed();
         println!("{test}: LPSPI_SEED={seed}");
+        Self::seeded(test, seed)
+    }
+
+    /// Starts from a given seed.
+    pub fn seeded(test: &'static str, seed: u64) -> Self {
         // The state must not be 0.
         let state = (seed ^ 0x9E37_79B9_7F4A_7C15).max(1);
         Self {

@@ -9,7 +9,7 @@ use super::{walk, Random};
 use lpspi_host::Driver;
 
 /// How often, in 256, an answer is of each kind.
-struct Mood {
+pub struct Mood {
     error: u32,
     unready: u32,
     tight: u32,
@@ -17,7 +17,7 @@ struct Mood {
 }
 
 impl Mood {
-    fn new(random: &mut Random) -> Self {
+    pub fn new(random: &mut Random) -> Self {
         let mut one_of = |often: [u32; 4]| often[random.below(4)];
         Self {
             error: one_of([0, 4, 16, 64]),
@@ -28,7 +28,7 @@ impl Mood {
     }
 
     /// An answer that may be to any register.
-    fn answer(&self, random: &mut Random) -> u32 {
+    pub fn answer(&self, random: &mut Random) -> u32 {
         // As SR no error, as PARAM much space, as FSR words to receive; one bit
         // makes the space, and one the words.
         let mut word = random.word() & !(ERRORS | RXCOUNT | 0xE0);

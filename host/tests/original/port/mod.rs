@@ -4,6 +4,7 @@ mod calls;
 mod directed;
 mod flush;
 mod random;
+mod sample;
 mod script;
 mod stops;
 

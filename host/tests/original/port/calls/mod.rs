@@ -23,7 +23,7 @@ enum Function {
 }
 
 /// A call.
-struct Entry {
+pub(super) struct Entry {
     name: &'static str,
     function: Function,
     /// Its number there.
@@ -55,7 +55,7 @@ const fn entry(
 }
 
 /// Every call.
-const CALLS: [Entry; 19] = {
+pub(super) const CALLS: [Entry; 19] = {
     use Function::*;
     // A recovery without its last write.
     let soft_reset = RECOVERY.split_at(RECOVERY.len() - 1).0;
@@ -134,15 +134,32 @@ fn direction(parameter: u32) -> Direction {
 
 /// A call with its parameters and limits.
 #[derive(Debug)]
-struct Case {
+pub(super) struct Case {
     entry: &'static Entry,
     a: u32,
     b: u32,
-    driver: Driver,
-    limits: Limits,
+    pub(super) driver: Driver,
+    pub(super) limits: Limits,
 }
 
 impl Case {
+    /// The place of the call in the list.
+    pub(super) fn place(&self) -> usize {
+        let place = CALLS.iter().position(|entry| entry.name == self.entry.name);
+        place.expect("a call of the list")
+    }
+
+    /// The exported function, by its number in the sample, with its kind and its
+    /// parameters.
+    pub(super) fn function(&self) -> [u32; 4] {
+        [
+            4 + self.entry.function as u32,
+            self.entry.kind,
+            self.a,
+            self.b,
+        ]
+    }
+
     /// What the port leaves.
     fn port(&self) -> Left<u8> {
         let Self {
@@ -210,7 +227,7 @@ impl Case {
 
     /// What the run leaves as the scope document has it: the original's, with numbers
     /// 5, 6 and 7, no value but with 0, and `init`'s driver value.
-    fn judged(&self) -> Left<u8> {
+    pub(super) fn judged(&self) -> Left<u8> {
         if let Some(number) = self.refusal() {
             return refused(number, self.driver, &self.limits);
         }

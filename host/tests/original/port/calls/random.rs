@@ -9,7 +9,7 @@ use crate::original_is_here;
 use lpspi_host::Driver;
 
 impl Case {
-    fn random(random: &mut Random) -> Self {
+    pub(in crate::port) fn random(random: &mut Random) -> Self {
         let entry = &CALLS[random.below(CALLS.len())];
         let mut parameter = || match random.below(4) {
             0 => random.below(3) as u32,

@@ -1,0 +1,52 @@
+-- The parts that are lent have as many elements as were asked for.
+-- Assumes nothing.
+use mathlib.Core.Path.{sym}
+use lib.Seq.{length-take-le}
+use borrow.Author.Needs.{needs}
+use Rattle.replay.proofs.run_u16.Statement.{statement}
+use Rattle.replay.proofs.run_u16.Tie as tie
+
+count-requires : tie.Need-count-requires
+count-requires c κs = search needs
+
+after-requires : tie.Need-after-requires
+after-requires c κs = search needs
+
+count-requires-2 : tie.Need-count-requires-2
+count-requires-2 c κs = search needs
+
+array-borrow-prefix-read : tie.Need-array-borrow-prefix-read
+array-borrow-prefix-read c = search needs
+
+slice-aggregate-transfer-u16 : tie.Need-slice-aggregate-transfer-u16
+slice-aggregate-transfer-u16 c = sym (length-take-le _ _ (search needs))
+
+array-borrow-prefix-write : tie.Need-array-borrow-prefix-write
+array-borrow-prefix-write c = search needs
+
+slice-aggregate-transfer-u16-2 : tie.Need-slice-aggregate-transfer-u16-2
+slice-aggregate-transfer-u16-2 c = sym (length-take-le _ _ (search needs))
+
+transfer-u16-requires : tie.Need-transfer-u16-requires
+transfer-u16-requires c κs = search needs
+
+same-length : tie.Need-same-length
+same-length c = search needs
+
+returns : tie.Need-returns
+returns c = search needs
+
+pub run-u16-spec : {M : Type 1} → statement M
+run-u16-spec =
+    tie.close
+    (tie.spec
+    count-requires
+    after-requires
+    count-requires-2
+    array-borrow-prefix-read
+    slice-aggregate-transfer-u16
+    array-borrow-prefix-write
+    slice-aggregate-transfer-u16-2
+    transfer-u16-requires
+    same-length
+    returns)
