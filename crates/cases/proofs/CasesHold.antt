@@ -5,6 +5,8 @@ use mathlib.Core.Bool.{Bool, true, false, _&&_}
 use mathlib.Core.List.{List, [], _∷_}
 use mathlib.Core.Path.{_≡_, refl, ap₂}
 use lib.Dec.{T, eqb, eqb→eq}
+use Rattle.machine.specs.Transfer.{dueAccess, resumed}
+use Rattle.runs.specs.Run.{times, step, afterAccess}
 use Rattle.cases.specs.Cases.{Case, cases, Hold}
 
 abbrev same : List ℕ → List ℕ → Bool
@@ -31,4 +33,5 @@ passed-hold (c ∷ cs) h =
     let b = both (same (c .gives) (c .says)) (passed cs) h in (same-equal (c .gives) (c .says) (b .0), passed-hold cs (b .1))
 
 pub cases-hold : Hold cases
+unfolding times step afterAccess dueAccess resumed
 cases-hold = passed-hold cases tt

@@ -1,5 +1,5 @@
--- The P cases of document 01, a row each, in its order: four of words, seven of commands, two of clocks. What the definitions give stands
--- beside what 01 says. A row is two lists of numbers: words, or a result number and its word.
+-- The P cases of document 01, a row each, in its order: four of words, seven of commands, two of clocks, one of `buslog`. What the definitions give stands
+-- beside what 01 says. A row is two lists of numbers: words, or a result number and its word, or bytes.
 -- Assumes nothing.
 use Prim.Native.Nat.{ℕ}
 use mathlib.Core.List.{List, [], _∷_}
@@ -9,6 +9,8 @@ use Rattle.words.specs.declared.mode.Mode.{Mode}
 use Rattle.words.specs.declared.mode.Pcs.the-variants.{Pcs2}
 use Rattle.words.specs.declared.mode.Phase.the-variants.{CaptureOnSecondTransition}
 use Rattle.words.specs.declared.mode.Polarity.the-variants.{IdleHigh}
+use Rattle.lines.specs.Buslog.{buslog}
+use Rattle.lines.specs.Text.{bytes}
 use Rattle.words.specs.Answer.{Answer}
 use Rattle.words.specs.Buffer.{packWords}
 use Rattle.words.specs.Clock.{ClockAnswer, clocked, clockWord}
@@ -49,6 +51,8 @@ cases =
     ∷ row (command (commanded (busWord Lsb mode3 Pcs2) 40)) (0 ∷ 0xC2800027 ∷ [])
     ∷ row (clock (clocked 60_000_000 4_000_000)) (0 ∷ 0x0707070E ∷ [])
     ∷ row (clock (clocked 60_000_000 100_000)) (0 ∷ 0x7F7F7FFE ∷ [])
+    ∷ row (buslog (bytes "8 M 20\nA5\n1\n0 404 0 0 404 0 0 404 10000 5A\n"))
+    (bytes "R 14 00000000\nR 04 00000404\nR 5C 00000000\nW 60 00000007\nR 14 00000000\nR 04 00000404\nR 5C 00000000\nW 64 000000A5\nR 14 00000000\nR 04 00000404\nR 5C 00010000\nR 74 0000005A\n5A\n0 12 10\n")
     ∷ []
 
 -- in every row the definitions give what 01 says

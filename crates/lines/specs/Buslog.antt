@@ -1,0 +1,34 @@
+-- `buslog` (document 01): a separate exchange from four lines, as text.
+-- Assumes nothing.
+use Prim.Native.Nat.{ℕ, zero, suc, _*_, min}
+use mathlib.Core.List.{List, [], _∷_, _++_}
+use mathlib.Core.Option.{Option, none, some}
+use lib.ListN.{take}
+use Rattle.machine.specs.Driver.{startDriver, withOrder}
+use Rattle.transfers.specs.Transfers.{TransferLeft, exchangeSeparate}
+use Rattle.lines.specs.Text.{bytes}
+use Rattle.lines.specs.Grammar.{Job, job}
+use Rattle.lines.specs.Listing.{accessLines, elementLines, resultLine}
+
+abbrev pub zeros : ℕ → List ℕ
+zeros zero = []
+zeros (suc n) = 0 ∷ zeros n
+
+-- mode 0, PCS 0; the read buffer starts as zeros; the log has just the places of the budget, and of 8,000 where it is more
+abbrev pub exchanged : Job → TransferLeft
+exchanged j =
+    exchangeSeparate (j .width) (withOrder (j .order) startDriver) (zeros (j .read)) (j .write) (j .budget) (j .script) (zeros (2 * min (j .budget) 8000))
+
+-- accesses, read elements, then the result
+abbrev pub listing : ℕ → TransferLeft → List ℕ
+listing k t =
+    let r = t .call .result in
+    accessLines (take (2 * r .accesses) (t .call .log)) ++ elementLines k (t .buffer) ++ resultLine (t .call .number) (r .accesses) (r .answers)
+
+-- anything else prints `bad`
+abbrev answer : Option Job → List ℕ
+answer none = bytes "bad\n"
+answer (some j) = listing (j .width) (exchanged j)
+
+abbrev pub buslog : List ℕ → List ℕ
+buslog text = answer (job text)

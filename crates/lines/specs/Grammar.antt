@@ -1,0 +1,76 @@
+-- The input of `buslog` (document 01): four lines.
+-- Assumes nothing.
+use Prim.Native.Nat.{ℕ, _/_, _^_}
+use mathlib.Core.Bool.{cond}
+use mathlib.Core.List.{List, [], _∷_}
+use mathlib.Core.Option.{Option, none, some}
+use lib.Dec.{ltb, leb}
+use lib.ListN.{length}
+use Rattle.words.specs.declared.order.BitOrder.{BitOrder}
+use Rattle.words.specs.declared.order.BitOrder.the-variants.{Msb, Lsb}
+use Rattle.lines.specs.Text.{bytes, newline, space, same, split, bind, only, numberOf}
+
+-- what a technician asks for
+pub record Job : Type 0 where
+  pub width : ℕ
+  pub order : BitOrder
+  pub budget : ℕ
+  pub write : List ℕ
+  pub read : ℕ
+  pub script : List ℕ
+
+-- counts decimal, below 2^32
+abbrev pub count : List ℕ → Option ℕ
+count field = bind (numberOf 10 field) (λ n. only (ltb n (2 ^ 32)) n)
+
+-- elements and script are hexadecimal, of at most the width's digits and 8 digits
+abbrev pub element : ℕ → List ℕ → Option ℕ
+element k field = cond (leb (length field) (k / 4)) (numberOf 16 field) none
+
+abbrev pub elements : ℕ → List (List ℕ) → Option (List ℕ)
+elements k [] = some []
+elements k (f ∷ fs) = bind (element k f) (λ x. bind (elements k fs) (λ xs. some (x ∷ xs)))
+
+-- single spaces separate; the write line and the script line may be empty; at most so many
+abbrev pub elementLine : ℕ → ℕ → List ℕ → Option (List ℕ)
+elementLine k most [] = some []
+elementLine k most (b ∷ bs) = bind (elements k (split space (b ∷ bs))) (λ xs. only (leb (length xs) most) xs)
+
+-- the width is exactly 8, 16 or 32
+abbrev pub widthOf : List ℕ → Option ℕ
+widthOf field = cond (same field (bytes "8")) (some 8) (cond (same field (bytes "16")) (some 16) (cond (same field (bytes "32")) (some 32) none))
+
+-- order (M or L)
+abbrev pub orderOf : List ℕ → Option BitOrder
+orderOf field = cond (same field (bytes "M")) (some Msb) (cond (same field (bytes "L")) (some Lsb) none)
+
+-- at most 512 elements written, 512 read, 8,000 answers
+abbrev rest : ℕ → BitOrder → ℕ → List ℕ → List ℕ → List ℕ → Option Job
+rest k o budget write read script =
+    bind (elementLine k 512 write) (λ ws.
+    bind (count read) (λ n.
+    bind (only (leb n 512) n) (λ m.
+    bind (elementLine 32 8000 script) (λ vs. some (record { width = k; order = o; budget = budget; write = ws; read = m; script = vs })))))
+
+-- width, order, budget: three fields
+abbrev firstLine : List (List ℕ) → List ℕ → List ℕ → List ℕ → Option Job
+firstLine [] write read script = none
+firstLine (w ∷ []) write read script = none
+firstLine (w ∷ o ∷ []) write read script = none
+firstLine (w ∷ o ∷ n ∷ []) write read script =
+    bind (widthOf w) (λ k. bind (orderOf o) (λ order. bind (count n) (λ budget. rest k order budget write read script)))
+firstLine (w ∷ o ∷ n ∷ x ∷ xs) write read script = none
+
+-- four lines; after the last there may be a newline
+abbrev lines : List (List ℕ) → Option Job
+lines [] = none
+lines (a ∷ []) = none
+lines (a ∷ b ∷ []) = none
+lines (a ∷ b ∷ c ∷ []) = none
+lines (a ∷ b ∷ c ∷ d ∷ []) = firstLine (split space a) b c d
+lines (a ∷ b ∷ c ∷ d ∷ [] ∷ []) = firstLine (split space a) b c d
+lines (a ∷ b ∷ c ∷ d ∷ (e ∷ es) ∷ []) = none
+lines (a ∷ b ∷ c ∷ d ∷ e ∷ f ∷ fs) = none
+
+abbrev pub job : List ℕ → Option Job
+job text = lines (split newline text)

@@ -1,0 +1,5 @@
+-- Read in this order.
+pub mod Text
+pub mod Grammar
+pub mod Listing
+pub mod Buslog

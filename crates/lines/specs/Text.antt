@@ -1,0 +1,93 @@
+-- Bytes as text: parts between separators, and numbers of digits.
+-- Assumes nothing.
+use Prim.Native.Char.{Char, code}
+use Prim.Native.Nat.{ℕ, zero, suc, _+_, _-_, _*_, _/_, _%_}
+use Prim.Native.String.{String, [] as []ˢ, _∷_ as _∷ˢ_}
+use mathlib.Core.Bool.{Bool, true, false, cond, _&&_}
+use mathlib.Core.List.{List, [], _∷_, _++_}
+use mathlib.Core.Option.{Option, none, some}
+use lib.Dec.{eqb, ltb, leb}
+use Rattle.words.specs.Word.{laid}
+
+-- a text's bytes
+abbrev pub bytes : String → List ℕ
+bytes []ˢ = []
+bytes (c ∷ˢ s) = code c ∷ bytes s
+
+abbrev pub newline : ℕ
+newline = 10
+
+abbrev pub space : ℕ
+space = 32
+
+abbrev pub same : List ℕ → List ℕ → Bool
+same [] [] = true
+same [] (y ∷ ys) = false
+same (x ∷ xs) [] = false
+same (x ∷ xs) (y ∷ ys) = eqb x y && same xs ys
+
+-- PARTS
+
+-- the parts of a text between separators: n separators make n + 1 parts
+abbrev onFirst : ℕ → List (List ℕ) → List (List ℕ)
+onFirst b [] = (b ∷ []) ∷ []
+onFirst b (p ∷ ps) = (b ∷ p) ∷ ps
+
+abbrev pub split : ℕ → List ℕ → List (List ℕ)
+split s [] = [] ∷ []
+split s (b ∷ bs) = cond (eqb b s) ([] ∷ split s bs) (onFirst b (split s bs))
+
+-- NUMBERS
+
+-- what follows a value, if there is one
+abbrev pub bind : {A B : Type 0} → Option A → (A → Option B) → Option B
+bind none f = none
+bind (some a) f = f a
+
+abbrev pub only : {A : Type 0} → Bool → A → Option A
+only true a = some a
+only false a = none
+
+abbrev from : ℕ → ℕ → ℕ → Bool
+from low high b = leb low b && leb b high
+
+-- the value of a digit; hexadecimal letters come in either case
+abbrev pub digit : ℕ → Option ℕ
+digit b = cond (from 48 57 b) (some (b - 48)) (cond (from 65 70 b) (some (b - 55)) (cond (from 97 102 b) (some (b - 87)) none))
+
+abbrev pub digitIn : ℕ → ℕ → Option ℕ
+digitIn base b = bind (digit b) (λ d. only (ltb d base) d)
+
+-- the number n, and more digits after it
+abbrev pub number : ℕ → ℕ → List ℕ → Option ℕ
+number base n [] = some n
+number base n (b ∷ bs) = bind (digitIn base b) (λ d. number base (n * base + d) bs)
+
+-- a number has a digit
+abbrev pub numberOf : ℕ → List ℕ → Option ℕ
+numberOf base [] = none
+numberOf base (b ∷ bs) = number base 0 (b ∷ bs)
+
+-- PRINTED
+
+-- a digit, letters as capitals
+abbrev pub glyph : ℕ → ℕ
+glyph d = cond (ltb d 10) (48 + d) (55 + d)
+
+-- the last k digits of a number
+abbrev pub digits : ℕ → ℕ → ℕ → List ℕ
+digits base zero n = []
+digits base (suc k) n = digits base k (n / base) ++ (glyph (n % base) ∷ [])
+
+-- the decimal digits of a number below 100,000
+abbrev pub places : ℕ → ℕ
+places n = cond (ltb n 10) 1 (cond (ltb n 100) 2 (cond (ltb n 1000) 3 (cond (ltb n 10000) 4 5)))
+
+abbrev pub decimal : ℕ → List ℕ
+decimal n = digits 10 (places n) n
+
+-- a buffer with a text from a place on; what has no room is dropped
+abbrev pub written : List ℕ → ℕ → List ℕ → List ℕ
+written out zero text = laid text out
+written [] (suc at) text = []
+written (b ∷ bs) (suc at) text = b ∷ written bs at text

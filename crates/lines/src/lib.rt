@@ -1,0 +1,2 @@
+// The lines of `buslog`: four in, the listing out.
+mod print;
