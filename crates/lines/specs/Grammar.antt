@@ -20,8 +20,11 @@ pub record Job : Type 0 where
   pub script : List ℕ
 
 -- counts decimal, below 2^32
+abbrev pub small : ℕ → Option ℕ
+small n = only (ltb n (2 ^ 32)) n
+
 abbrev pub count : List ℕ → Option ℕ
-count field = bind (numberOf 10 field) (λ n. only (ltb n (2 ^ 32)) n)
+count field = bind (numberOf 10 field) small
 
 -- elements and script are hexadecimal, of at most the width's digits and 8 digits
 abbrev pub element : ℕ → List ℕ → Option ℕ

@@ -3,3 +3,4 @@ pub mod Text
 pub mod Grammar
 pub mod Listing
 pub mod Buslog
+pub mod Parse

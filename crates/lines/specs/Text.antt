@@ -6,7 +6,7 @@ use Prim.Native.String.{String, [] as []ˢ, _∷_ as _∷ˢ_}
 use mathlib.Core.Bool.{Bool, true, false, cond, _&&_}
 use mathlib.Core.List.{List, [], _∷_, _++_}
 use mathlib.Core.Option.{Option, none, some}
-use lib.Dec.{eqb, ltb, leb}
+use lib.Dec.{eqb, ltb}
 use Rattle.words.specs.Word.{laid}
 
 -- a text's bytes
@@ -48,12 +48,14 @@ abbrev pub only : {A : Type 0} → Bool → A → Option A
 only true a = some a
 only false a = none
 
-abbrev from : ℕ → ℕ → ℕ → Bool
-from low high b = leb low b && leb b high
-
--- the value of a digit; hexadecimal letters come in either case
+-- the value of a digit: 0 to 9, A to F, and a to f
 abbrev pub digit : ℕ → Option ℕ
-digit b = cond (from 48 57 b) (some (b - 48)) (cond (from 65 70 b) (some (b - 55)) (cond (from 97 102 b) (some (b - 87)) none))
+digit b =
+    cond (ltb b 48) none
+    (cond (ltb b 58) (some (b - 48))
+    (cond (ltb b 65) none
+    (cond (ltb b 71) (some (b - 55))
+    (cond (ltb b 97) none (cond (ltb b 103) (some (b - 87)) none)))))
 
 abbrev pub digitIn : ℕ → ℕ → Option ℕ
 digitIn base b = bind (digit b) (λ d. only (ltb d base) d)
@@ -67,6 +69,11 @@ number base n (b ∷ bs) = bind (digitIn base b) (λ d. number base (n * base + 
 abbrev pub numberOf : ℕ → List ℕ → Option ℕ
 numberOf base [] = none
 numberOf base (b ∷ bs) = number base 0 (b ∷ bs)
+
+-- the bytes before the first separator
+abbrev pub upTo : ℕ → List ℕ → ℕ
+upTo s [] = 0
+upTo s (b ∷ bs) = cond (eqb b s) 0 (suc (upTo s bs))
 
 -- PRINTED
 

@@ -1,2 +1,3 @@
 // The lines of `buslog`: four in, the listing out.
+mod parse;
 mod print;

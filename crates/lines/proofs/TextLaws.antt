@@ -1,0 +1,71 @@
+-- Parts of a text and their numbers.
+-- Assumes nothing.
+use Prim.Native.Nat.{ℕ, zero, suc, _+_, _*_, _^_, _<_, _≤_}
+use mathlib.Core.Bool.{true, false}
+use mathlib.Core.List.{List, [], _∷_}
+use mathlib.Core.Path.{_≡_, refl, ap, _∙_}
+use mathlib.Core.Option.{Option, none, some}
+use native.Mathlib.Nat.{mul-le-mul-left, mul-one}
+use native.Mathlib.Omega.{arith}
+use borrow.Author.Tests.{eq-eqb, ne-eqb, le-ltb}
+use lib.Dec.{eqb}
+use lib.ListN.{length, getD, drop}
+use Rattle.lines.specs.Text.{bind, digitIn, number, numberOf, upTo}
+use Rattle.lines.specs.Grammar.{small}
+
+pub nonzero : (n : ℕ) → (n ≡ 0 → ⊥) → 0 < n
+nonzero zero h = absurd (h refl)
+nonzero (suc n) h = omega arith
+
+-- UP TO THE FIRST SEPARATOR
+
+pub up-to-more : (s : ℕ) (xs : List ℕ) (n : ℕ) → n < length xs → (getD xs n 0 ≡ s → ⊥) → upTo s (drop n xs) ≡ suc (upTo s (drop (n + 1) xs))
+up-to-more s [] n h e = absurd (omega arith)
+up-to-more s (x ∷ xs) zero h e = rw (ne-eqb x s e)
+up-to-more s (x ∷ xs) (suc n) h e = let m : suc n + 1 ≡ suc (n + 1) = omega arith in rw m (up-to-more s xs n (omega arith) e)
+
+pub up-to-here : (s : ℕ) (xs : List ℕ) (n : ℕ) → n < length xs → getD xs n 0 ≡ s → upTo s (drop n xs) ≡ 0
+up-to-here s [] n h e = absurd (omega arith)
+up-to-here s (x ∷ xs) zero h e = rw (eq-eqb x s e)
+up-to-here s (x ∷ xs) (suc n) h e = up-to-here s xs n (omega arith) e
+
+pub up-to-end : (s : ℕ) (xs : List ℕ) (n : ℕ) → length xs ≤ n → upTo s (drop n xs) ≡ 0
+up-to-end s [] zero h = refl
+up-to-end s [] (suc n) h = refl
+up-to-end s (x ∷ xs) zero h = absurd (omega arith)
+up-to-end s (x ∷ xs) (suc n) h = up-to-end s xs n (omega arith)
+
+-- NUMBERS, a digit at a time
+
+pub number-more : (base n : ℕ) (xs : List ℕ) (i d : ℕ) → i < length xs → digitIn base (getD xs i 0) ≡ some d → number base n (drop i xs) ≡ number base (n * base + d) (drop (i + 1) xs)
+number-more base n [] i d h e = absurd (omega arith)
+number-more base n (x ∷ xs) zero d h e = rw e
+number-more base n (x ∷ xs) (suc i) d h e = let m : suc i + 1 ≡ suc (i + 1) = omega arith in rw m (number-more base n xs i d (omega arith) e)
+
+pub number-bad : (base n : ℕ) (xs : List ℕ) (i : ℕ) → i < length xs → digitIn base (getD xs i 0) ≡ none → number base n (drop i xs) ≡ none
+number-bad base n [] i h e = absurd (omega arith)
+number-bad base n (x ∷ xs) zero h e = rw e
+number-bad base n (x ∷ xs) (suc i) h e = number-bad base n xs i (omega arith) e
+
+pub number-end : (base n : ℕ) (xs : List ℕ) (i : ℕ) → length xs ≤ i → number base n (drop i xs) ≡ some n
+number-end base n [] zero h = refl
+number-end base n [] (suc i) h = refl
+number-end base n (x ∷ xs) zero h = absurd (omega arith)
+number-end base n (x ∷ xs) (suc i) h = number-end base n xs i (omega arith)
+
+-- a number that is too large stays so
+pub number-large : (base n : ℕ) (xs : List ℕ) → 0 < base → 2 ^ 32 ≤ n → bind (number base n xs) small ≡ none
+number-large base n [] h l = rw (le-ltb n (2 ^ 32) l)
+number-large base n (x ∷ xs) h l = by-digit (digitIn base x) (λ d. number-large base (n * base + d) xs h (omega (arith, mul-le-mul-left n h, mul-one n)))
+  where
+    by-digit : (o : Option ℕ) → ((d : ℕ) → bind (number base (n * base + d) xs) small ≡ none) → bind (bind o (λ d. number base (n * base + d) xs)) small ≡ none
+    by-digit none f = refl
+    by-digit (some d) f = f d
+
+pub numberOf-begins : (base : ℕ) (xs : List ℕ) → 0 < length xs → numberOf base xs ≡ number base 0 xs
+numberOf-begins base [] h = absurd (omega arith)
+numberOf-begins base (x ∷ xs) h = refl
+
+pub numberOf-nothing : (base : ℕ) (xs : List ℕ) → length xs ≡ 0 → numberOf base xs ≡ none
+numberOf-nothing base [] h = refl
+numberOf-nothing base (x ∷ xs) h = absurd (omega arith)

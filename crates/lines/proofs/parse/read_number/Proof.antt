@@ -1,0 +1,119 @@
+-- `read_number` meets its contract. The loop's invariant: with the digits that are left, it is the whole number.
+-- Assumes nothing.
+use Prim.Native.Nat.{ℕ, _+_, _-_, _*_, _^_, _<_, _≤_}
+use mathlib.Core.Option.{Option, none, some}
+use mathlib.Core.Path.{_≡_, refl, sym, ap, _∙_}
+use native.Mathlib.Nat.{mul-le-mul-left}
+use native.Mathlib.Omega.{arith}
+use borrow.Author.Tests.{lt-ltb}
+use lib.ListN.{length, drop, getD}
+use Rattle.lines.specs.Text.{bind, number, numberOf}
+use Rattle.lines.specs.Grammar.{small}
+use Rattle.lines.specs.Parse.{numberAnswer}
+use Rattle.lines.proofs.TextLaws.{nonzero, number-more, number-bad, number-end, number-large, numberOf-begins, numberOf-nothing}
+use borrow.Author.Needs.{needs}
+use Rattle.lines.proofs.parse.read_number.Statement.{statement}
+use Rattle.lines.proofs.parse.read_number.Tie as tie
+
+abbrev Inv-loop : tie.InvT-loop
+Inv-loop base field n₀ i₀ i-end n i = (i ≤ i-end) × (n < 2 ^ 32) × (bind (number base n (drop i field)) small ≡ bind (numberOf base field) small)
+
+abbrev μ-loop : tie.MeasureT-loop
+μ-loop base field n₀ i₀ i-end n i = i-end - i
+
+returns : tie.Need-returns Inv-loop μ-loop
+returns c = let a = c .before .before .args in rw (numberOf-nothing (a .base) (a .field .now) (c .if1 .taken))
+
+loop-holds : tie.Need-loop-holds Inv-loop μ-loop
+loop-holds c =
+    let a = c .before .before .args in
+    (omega arith, omega arith, ap (λ (o : Option ℕ). bind o small) (sym (numberOf-begins (a .base) (a .field .now) (omega (arith, nonzero (length (a .field .now)) (c .if1 .left))))))
+
+shared-slice-read-digit-in : tie.Need-shared-slice-read-digit-in Inv-loop μ-loop
+shared-slice-read-digit-in c = search needs
+
+digit-in-requires : tie.Need-digit-in-requires Inv-loop μ-loop
+digit-in-requires c κs = search needs
+
+enum-told : tie.Need-enum-told Inv-loop μ-loop
+enum-told c = search needs
+
+returns-2 : tie.Need-returns-2 Inv-loop μ-loop
+returns-2 c =
+    let a = c .before .before .before .before .before .before .before .before .args in
+    let l = c .before .before .before .before .before .loop in
+    let e = sym (c .before .before .digit-in .ensures) ∙ ap numberAnswer (c .enum-told .given .1) in
+    sym (ap (λ (o : Option ℕ). bind o small) (number-bad (a .base) (l .n) (a .field .now) (l .i) (omega arith) e)) ∙ l .inv .2
+
+enum-known-d : tie.Need-enum-known-d Inv-loop μ-loop
+enum-known-d c = search needs
+
+mul-more : tie.Need-mul-more Inv-loop μ-loop
+mul-more c = let l = c .before .before .before .before .before .before .loop in record { fits = omega (arith, mul-le-mul-left (l .n) (c .before .before .before .before .before .before .before .before .before .pre .1), l .inv .1) }
+
+cast-more : tie.Need-cast-more Inv-loop μ-loop
+cast-more c = search needs
+
+add-more : tie.Need-add-more Inv-loop μ-loop
+add-more c =
+    let l = c .before .before .before .before .before .before .loop in
+    let d : c .before .d .given .0 .0 < 2 ^ 32 = search needs in
+    record { fits = omega (arith, mul-le-mul-left (l .n) (c .before .before .before .before .before .before .before .before .before .pre .1), l .inv .1, d) }
+
+returns-3 : tie.Need-returns-3 Inv-loop μ-loop
+returns-3 c =
+    let a = c .before .before .before .before .before .before .before .before .before .before .args in
+    let l = c .before .before .before .before .before .before .before .loop in
+    let d = c .before .before .d .given .0 .0 in
+    let e = sym (c .before .before .before .before .digit-in .ensures) ∙ ap numberAnswer (c .before .before .d .given .1) in
+    let step = ap (λ (o : Option ℕ). bind o small) (number-more (a .base) (l .n) (a .field .now) (l .i) d (omega arith) e) in
+    sym (number-large (a .base) (l .n * a .base + d) (drop (l .i + 1) (a .field .now)) (c .before .before .before .before .before .before .before .before .before .before .pre .0) (omega (arith, c .if2 .taken))) ∙ sym step ∙ l .inv .2
+
+add-i : tie.Need-add-i Inv-loop μ-loop
+add-i c = omega arith
+
+loop-less : tie.Need-loop-less Inv-loop μ-loop
+loop-less c = omega arith
+
+loop-again : tie.Need-loop-again Inv-loop μ-loop
+loop-again c =
+    let a = c .before .before .before .before .before .before .before .before .before .before .args in
+    let l = c .before .before .before .before .before .before .before .loop in
+    let d = c .before .before .d .given .0 .0 in
+    let e = sym (c .before .before .before .before .digit-in .ensures) ∙ ap numberAnswer (c .before .before .d .given .1) in
+    let step = ap (λ (o : Option ℕ). bind o small) (number-more (a .base) (l .n) (a .field .now) (l .i) d (omega arith) e) in
+    (omega arith, omega (arith, c .if2 .left), sym step ∙ l .inv .2)
+
+cast-t18 : tie.Need-cast-t18 Inv-loop μ-loop
+cast-t18 c = search needs
+
+returns-4 : tie.Need-returns-4 Inv-loop μ-loop
+returns-4 c =
+    let a = c .before .before .before .before .args in
+    let l = c .before .loop in
+    let whole = ap (λ (o : Option ℕ). bind o small) (number-end (a .base) (l .n) (a .field .now) (l .i) (omega arith)) in
+    let fits : small (l .n) ≡ some (l .n) = rw (lt-ltb (l .n) (2 ^ 32) (l .inv .1)) in
+    sym fits ∙ sym whole ∙ l .inv .2
+
+pub read-number-spec : {M : Type 1} → statement M
+read-number-spec =
+    tie.close
+    (tie.spec
+    Inv-loop
+    μ-loop
+    returns
+    loop-holds
+    shared-slice-read-digit-in
+    digit-in-requires
+    enum-told
+    returns-2
+    enum-known-d
+    mul-more
+    cast-more
+    add-more
+    returns-3
+    add-i
+    loop-less
+    loop-again
+    cast-t18
+    returns-4)
