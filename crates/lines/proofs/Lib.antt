@@ -1,3 +1,4 @@
 pub mod TextLaws
+pub mod ElementLaws
 pub mod WrittenLaws
 pub mod ListingLaws

@@ -1,21 +1,28 @@
 -- Parts of a text and their numbers.
 -- Assumes nothing.
 use Prim.Native.Nat.{ℕ, zero, suc, _+_, _*_, _^_, _<_, _≤_}
-use mathlib.Core.Bool.{true, false}
+use mathlib.Core.Bool.{Bool, true, false}
 use mathlib.Core.List.{List, [], _∷_}
 use mathlib.Core.Path.{_≡_, refl, ap, _∙_}
 use mathlib.Core.Option.{Option, none, some}
-use native.Mathlib.Nat.{mul-le-mul-left, mul-one}
+use native.Mathlib.Nat.{mul-le-mul-left, mul-one, pow-suc, pow-le-pow-right}
 use native.Mathlib.Omega.{arith}
-use borrow.Author.Tests.{eq-eqb, ne-eqb, le-ltb}
-use lib.Dec.{eqb}
+use borrow.Author.Tests.{eq-eqb, ne-eqb, lt-ltb, le-ltb, ltb-true, ltb-false}
+use lib.Dec.{eqb, ltb}
 use lib.ListN.{length, getD, drop}
-use Rattle.lines.specs.Text.{bind, digitIn, number, numberOf, upTo}
+use Rattle.lines.specs.Text.{bind, only, digit, digitIn, number, numberOf, upTo}
 use Rattle.lines.specs.Grammar.{small}
 
 pub nonzero : (n : ℕ) → (n ≡ 0 → ⊥) → 0 < n
 nonzero zero h = absurd (h refl)
 nonzero (suc n) h = omega arith
+
+pub before-end : (n m : ℕ) → n ≤ m → (n ≡ m → ⊥) → n < m
+before-end n m l h = by-test (ltb n m) refl
+  where
+    by-test : (t : Bool) → ltb n m ≡ t → n < m
+    by-test true e = ltb-true n m e
+    by-test false e = let r = ltb-false n m e in absurd (h (omega arith))
 
 -- UP TO THE FIRST SEPARATOR
 
@@ -61,6 +68,27 @@ number-large base n (x ∷ xs) h l = by-digit (digitIn base x) (λ d. number-lar
     by-digit : (o : Option ℕ) → ((d : ℕ) → bind (number base (n * base + d) xs) small ≡ none) → bind (bind o (λ d. number base (n * base + d) xs)) small ≡ none
     by-digit none f = refl
     by-digit (some d) f = f d
+
+-- so many hexadecimal digits fit 32 bits
+below : (j : ℕ) → j ≤ 8 → 16 ^ j ≤ 2 ^ 32
+below j h = pow-le-pow-right {n = 16} (omega arith) {i = j} {j = 8} h
+
+number-fits : (n j : ℕ) (xs : List ℕ) → n < 16 ^ j → j + length xs ≤ 8 → bind (number 16 n xs) small ≡ number 16 n xs
+number-fits n j [] l h = rw (lt-ltb n (2 ^ 32) (omega (arith, below j (omega arith))))
+number-fits n j (x ∷ xs) l h = by-digit (digit x) (λ d e. number-fits (n * 16 + d) (suc j) xs (omega (arith, pow-suc 16 j)) (omega arith))
+  where
+    by-digit : (o : Option ℕ) → ((d : ℕ) → d < 16 → bind (number 16 (n * 16 + d) xs) small ≡ number 16 (n * 16 + d) xs)
+        → bind (bind (bind o (λ d. only (ltb d 16) d)) (λ d. number 16 (n * 16 + d) xs)) small ≡ bind (bind o (λ d. only (ltb d 16) d)) (λ d. number 16 (n * 16 + d) xs)
+    by-digit none f = refl
+    by-digit (some d) f = by-test (ltb d 16) refl
+      where
+        by-test : (t : Bool) → ltb d 16 ≡ t → bind (bind (only t d) (λ d. number 16 (n * 16 + d) xs)) small ≡ bind (only t d) (λ d. number 16 (n * 16 + d) xs)
+        by-test true e = f d (ltb-true d 16 e)
+        by-test false e = refl
+
+pub numberOf-fits : (xs : List ℕ) → length xs ≤ 8 → bind (numberOf 16 xs) small ≡ numberOf 16 xs
+numberOf-fits [] h = refl
+numberOf-fits (x ∷ xs) h = number-fits 0 0 (x ∷ xs) (omega arith) (omega arith)
 
 pub numberOf-begins : (base : ℕ) (xs : List ℕ) → 0 < length xs → numberOf base xs ≡ number base 0 xs
 numberOf-begins base [] h = absurd (omega arith)

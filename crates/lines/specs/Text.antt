@@ -29,7 +29,7 @@ same (x ∷ xs) (y ∷ ys) = eqb x y && same xs ys
 -- PARTS
 
 -- the parts of a text between separators: n separators make n + 1 parts
-abbrev onFirst : ℕ → List (List ℕ) → List (List ℕ)
+abbrev pub onFirst : ℕ → List (List ℕ) → List (List ℕ)
 onFirst b [] = (b ∷ []) ∷ []
 onFirst b (p ∷ ps) = (b ∷ p) ∷ ps
 

@@ -1,10 +1,10 @@
 // The input: numbers, lines, and the job that they ask for.
-ghost use Prim.Native.Nat.{_<_, _≤_};
+ghost use Prim.Native.Nat.{_+_, _<_, _≤_};
 ghost use mathlib.Core.Path.{_≡_};
-ghost use lib.ListN.{length};
+ghost use lib.ListN.{length, drop};
 ghost use Rattle.lines.specs.Text.{bind, digit as digitOf, digitIn, upTo, numberOf};
-ghost use Rattle.lines.specs.Grammar.{small};
-ghost use Rattle.lines.specs.Parse.{numberAnswer};
+ghost use Rattle.lines.specs.Grammar.{small, element};
+ghost use Rattle.lines.specs.Parse.{numberAnswer, Elements};
 
 pub(crate) enum Number {
     Value(u32),
@@ -49,11 +49,12 @@ fn digit_in(base: u32, byte: u8) -> Number
     }
 }
 
-// The bytes before the first separator.
-fn up_to(text: &[u8], separator: u8) -> usize
-    ensures { λ r. ⌜ (r ≡ upTo separator (now (text .entry))) × (r ≤ length (now (text .entry))) ⌝ }
+// The place of the first separator from a place on, or the text's end.
+fn up_to(text: &[u8], from: usize, separator: u8) -> usize
+    requires { ⌜ from ≤ length (now text) ⌝ }
+    ensures { λ r. ⌜ (r ≡ from + upTo separator (drop from (now (text .entry)))) × (r ≤ length (now (text .entry))) ⌝ }
 {
-    let mut n = 0;
+    let mut n = from;
     while n < text.len() {
         if text[n] == separator {
             return n;
@@ -87,4 +88,46 @@ fn read_number(base: u32, field: &[u8]) -> Number
         }
     }
     Number::Value(n as u32)
+}
+
+// An element of `k` bits.
+fn read_element(k: usize, field: &[u8]) -> Number
+    requires { ⌜ k ≤ 32 ⌝ }
+    ensures { λ r. ⌜ numberAnswer r ≡ element k (now (field .entry)) ⌝ }
+{
+    if k / 4 < field.len() {
+        return Number::Bad;
+    }
+    read_number(16, field)
+}
+
+// The elements of a line over the front of a buffer, and how many; at most so many.
+fn read_elements(k: usize, most: usize, line: &[u8], out: &mut [u32]) -> Number
+    requires { ⌜ (k ≤ 32) × (most ≤ length (now out)) × (most < 4294967296) ⌝ }
+    ensures { λ r. ⌜ Elements k most (now (line .entry)) (now (out .exit)) r ⌝ }
+{
+    if line.len() == 0 {
+        return Number::Value(0);
+    }
+    let mut from = 0;
+    let mut n: usize = 0;
+    loop {
+        let end = up_to(line, from, 32);
+        match read_element(k, &line[from..end]) {
+            Number::Bad => {
+                return Number::Bad;
+            }
+            Number::Value(x) => {
+                if most <= n {
+                    return Number::Bad;
+                }
+                out[n] = x;
+                n += 1;
+            }
+        }
+        if end == line.len() {
+            return Number::Value(n as u32);
+        }
+        from = end + 1;
+    }
 }

@@ -11,13 +11,13 @@ use Rattle.lines.proofs.parse.up_to.Statement.{statement}
 use Rattle.lines.proofs.parse.up_to.Tie as tie
 
 abbrev Inv-loop : tie.InvT-loop
-Inv-loop text separator n₀ n = (n ≤ length text) × (upTo separator text ≡ n + upTo separator (drop n text))
+Inv-loop text from separator n₀ n = (n ≤ length text) × (from + upTo separator (drop from text) ≡ n + upTo separator (drop n text))
 
 abbrev μ-loop : tie.MeasureT-loop
-μ-loop text separator n₀ n = length text - n
+μ-loop text from separator n₀ n = length text - n
 
 loop-holds : tie.Need-loop-holds Inv-loop μ-loop
-loop-holds c = (omega arith, omega arith)
+loop-holds c = (omega arith, refl)
 
 shared-slice-read-if1 : tie.Need-shared-slice-read-if1 Inv-loop μ-loop
 shared-slice-read-if1 c = search needs

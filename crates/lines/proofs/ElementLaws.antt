@@ -1,0 +1,96 @@
+-- The elements of a line, a field at a time.
+-- Assumes nothing.
+use Prim.Native.Nat.{ℕ, zero, suc, _+_, _-_, _<_, _≤_}
+use mathlib.Core.Bool.{Bool, true, false, cond}
+use mathlib.Core.List.{List, [], _∷_, _++_, append-nil, append-assoc}
+use mathlib.Core.Option.{Option, none, some}
+use mathlib.Core.Path.{_≡_, refl, sym, ap, ap₂, _∙_, subst}
+use native.Mathlib.Omega.{arith}
+use borrow.Author.Tests.{ltb-true, ltb-false, le-leb, lt-leb}
+use lib.Dec.{eqb, ltb, leb}
+use lib.ListN.{length, take, drop, length-append, length-drop}
+use lib.Seq.{take-all, drop-drop}
+use Rattle.lines.specs.Text.{space, split, onFirst, upTo, bind, only}
+use Rattle.lines.specs.Grammar.{element, elements, elementLine}
+
+-- PARTS
+pub split-more : (s : ℕ) (bs : List ℕ) → upTo s bs < length bs → split s bs ≡ take (upTo s bs) bs ∷ split s (drop (upTo s bs + 1) bs)
+split-more s [] h = absurd (omega arith)
+split-more s (b ∷ bs) h = by-test (eqb b s) refl (λ l. split-more s bs l)
+  where
+    by-test : (t : Bool) → eqb b s ≡ t → (upTo s bs < length bs → split s bs ≡ take (upTo s bs) bs ∷ split s (drop (upTo s bs + 1) bs))
+        → split s (b ∷ bs) ≡ take (upTo s (b ∷ bs)) (b ∷ bs) ∷ split s (drop (upTo s (b ∷ bs) + 1) (b ∷ bs))
+    by-test true e f = rw e
+    by-test false e f =
+        let l : suc (upTo s bs) < suc (length bs) = subst (λ (t : Bool). cond t 0 (suc (upTo s bs)) < suc (length bs)) e h in
+        let m : suc (upTo s bs) + 1 ≡ suc (upTo s bs + 1) = omega arith in
+        rw (e, m) (ap (onFirst b) (f (omega arith)))
+
+pub split-last : (s : ℕ) (bs : List ℕ) → length bs ≤ upTo s bs → split s bs ≡ bs ∷ []
+split-last s [] h = refl
+split-last s (b ∷ bs) h = by-test (eqb b s) refl (λ l. split-last s bs l)
+  where
+    by-test : (t : Bool) → eqb b s ≡ t → (length bs ≤ upTo s bs → split s bs ≡ bs ∷ []) → split s (b ∷ bs) ≡ (b ∷ bs) ∷ []
+    by-test true e f = let l : suc (length bs) ≤ 0 = subst (λ (t : Bool). suc (length bs) ≤ cond t 0 (suc (upTo s bs))) e h in absurd (omega arith)
+    by-test false e f = let l : suc (length bs) ≤ suc (upTo s bs) = subst (λ (t : Bool). suc (length bs) ≤ cond t 0 (suc (upTo s bs))) e h in rw e (ap (onFirst b) (f (omega arith)))
+
+-- by places in the line
+fields-more : (s : ℕ) (line : List ℕ) (from end : ℕ) → from ≤ length line → end ≡ from + upTo s (drop from line) → end < length line
+    → split s (drop from line) ≡ take (end - from) (drop from line) ∷ split s (drop (end + 1) line)
+fields-more s line from end l e h =
+    let bs = drop from line in
+    let u : end - from ≡ upTo s bs = omega (arith, e) in
+    let n : from + (upTo s bs + 1) ≡ end + 1 = omega (arith, e) in
+    split-more s bs (omega (arith, e, length-drop from line))
+    ∙ ap₂ (λ (i : ℕ) (r : List ℕ). take i bs ∷ split s r) (sym u) (drop-drop (upTo s bs + 1) from line ∙ ap (λ (i : ℕ). drop i line) n)
+
+fields-last : (s : ℕ) (line : List ℕ) (from end : ℕ) → from ≤ length line → end ≡ from + upTo s (drop from line) → end ≡ length line
+    → split s (drop from line) ≡ take (end - from) (drop from line) ∷ []
+fields-last s line from end l e h =
+    split-last s (drop from line) (omega (arith, e, h, length-drop from line))
+    ∙ ap (λ (t : List ℕ). t ∷ []) (sym (take-all (end - from) (drop from line) (omega (arith, h, length-drop from line))))
+
+-- the fields after the one that ends there
+abbrev pub later : ℕ → List ℕ → ℕ → List (List ℕ)
+later s line end = cond (ltb end (length line)) (split s (drop (end + 1) line)) []
+
+pub fields : (s : ℕ) (line : List ℕ) (from end : ℕ) → from ≤ length line → end ≡ from + upTo s (drop from line) → end ≤ length line
+    → split s (drop from line) ≡ take (end - from) (drop from line) ∷ later s line end
+fields s line from end l e h = by-test (ltb end (length line)) refl
+  where
+    by-test : (t : Bool) → ltb end (length line) ≡ t → split s (drop from line) ≡ take (end - from) (drop from line) ∷ cond t (split s (drop (end + 1) line)) []
+    by-test true t = fields-more s line from end l e (ltb-true end (length line) t)
+    by-test false t = let m = ltb-false end (length line) t in fields-last s line from end l e (omega arith)
+
+-- ELEMENTS: those before, and the fields that are left
+abbrev pub togo : ℕ → ℕ → List ℕ → List (List ℕ) → Option (List ℕ)
+togo k most before fs = bind (elements k fs) (λ xs. only (leb (length (before ++ xs)) most) (before ++ xs))
+
+pub togo-start : (k most : ℕ) (line : List ℕ) → 0 < length line → togo k most [] (split space line) ≡ elementLine k most line
+togo-start k most [] h = absurd (omega arith)
+togo-start k most (b ∷ bs) h = refl
+
+pub togo-bad : (k most : ℕ) (before f : List ℕ) (fs : List (List ℕ)) → element k f ≡ none → togo k most before (f ∷ fs) ≡ none
+togo-bad k most before f fs e = rw e
+
+pub togo-more : (k most x : ℕ) (before f : List ℕ) (fs : List (List ℕ)) → element k f ≡ some x → togo k most before (f ∷ fs) ≡ togo k most (before ++ (x ∷ [])) fs
+togo-more k most x before f fs e = rw e (by-rest (elements k fs))
+  where
+    by-rest : (o : Option (List ℕ)) → bind (bind o (λ xs. some (x ∷ xs))) (λ xs. only (leb (length (before ++ xs)) most) (before ++ xs))
+        ≡ bind o (λ xs. only (leb (length ((before ++ (x ∷ [])) ++ xs)) most) ((before ++ (x ∷ [])) ++ xs))
+    by-rest none = refl
+    by-rest (some xs) = ap (λ (l : List ℕ). only (leb (length l) most) l) (sym (append-assoc before (x ∷ []) xs))
+
+pub togo-over : (k most : ℕ) (before : List ℕ) (fs : List (List ℕ)) → most < length before → togo k most before fs ≡ none
+togo-over k most before fs h = by-rest (elements k fs)
+  where
+    by-rest : (o : Option (List ℕ)) → bind o (λ xs. only (leb (length (before ++ xs)) most) (before ++ xs)) ≡ none
+    by-rest none = refl
+    by-rest (some xs) = rw (lt-leb (length (before ++ xs)) most (omega (arith, length-append before xs)))
+
+pub togo-end : (k most : ℕ) (before : List ℕ) → length before ≤ most → togo k most before [] ≡ some before
+togo-end k most before h = rw (append-nil before, le-leb (length before) most h)
+
+pub empty-line : (k most : ℕ) (line : List ℕ) → length line ≡ 0 → elementLine k most line ≡ some []
+empty-line k most [] h = refl
+empty-line k most (b ∷ bs) h = absurd (omega arith)
