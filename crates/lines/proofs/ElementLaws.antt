@@ -6,12 +6,12 @@ use mathlib.Core.List.{List, [], _∷_, _++_, append-nil, append-assoc}
 use mathlib.Core.Option.{Option, none, some}
 use mathlib.Core.Path.{_≡_, refl, sym, ap, ap₂, _∙_, subst}
 use native.Mathlib.Omega.{arith}
-use borrow.Author.Tests.{ltb-true, ltb-false, le-leb, lt-leb}
+use borrow.Author.Tests.{lt-ltb, le-ltb, ltb-true, ltb-false, le-leb, lt-leb}
 use lib.Dec.{eqb, ltb, leb}
 use lib.ListN.{length, take, drop, length-append, length-drop}
 use lib.Seq.{take-all, drop-drop}
 use Rattle.lines.specs.Text.{space, split, onFirst, upTo, bind, only}
-use Rattle.lines.specs.Grammar.{element, elements, elementLine}
+use Rattle.lines.specs.Grammar.{element, elements, elementLine, setting}
 
 -- PARTS
 pub split-more : (s : ℕ) (bs : List ℕ) → upTo s bs < length bs → split s bs ≡ take (upTo s bs) bs ∷ split s (drop (upTo s bs + 1) bs)
@@ -61,6 +61,33 @@ fields s line from end l e h = by-test (ltb end (length line)) refl
     by-test : (t : Bool) → ltb end (length line) ≡ t → split s (drop from line) ≡ take (end - from) (drop from line) ∷ cond t (split s (drop (end + 1) line)) []
     by-test true t = fields-more s line from end l e (ltb-true end (length line) t)
     by-test false t = let m = ltb-false end (length line) t in fields-last s line from end l e (omega arith)
+
+-- part after part
+pub first-part : (s : ℕ) (line : List ℕ) (a : ℕ) → a ≡ 0 + upTo s (drop 0 line) → a ≤ length line → split s line ≡ take a line ∷ later s line a
+first-part s line a e h = fields s line 0 a (omega arith) e h ∙ ap (λ (n : ℕ). take n line ∷ later s line a) (let z : a - 0 ≡ a = omega arith in z)
+
+pub next-part : (s : ℕ) (line : List ℕ) (a b : ℕ) → a < length line → b ≡ (a + 1) + upTo s (drop (a + 1) line) → b ≤ length line
+    → later s line a ≡ take (b - (a + 1)) (drop (a + 1) line) ∷ later s line b
+next-part s line a b h e l = rw (lt-ltb a (length line) h) (fields s line (a + 1) b (omega arith) e l)
+
+pub no-part : (s : ℕ) (line : List ℕ) (a : ℕ) → length line ≤ a → later s line a ≡ []
+no-part s line a h = rw (le-ltb a (length line) h)
+
+-- a fourth field on the first line
+pub four-fields : (w o n : List ℕ) (s : ℕ) (line : List ℕ) (a : ℕ) → a < length line → setting (w ∷ o ∷ n ∷ later s line a) ≡ none
+four-fields w o n s line a h = rw (lt-ltb a (length line) h) (some-part (drop (a + 1) line))
+  where
+    on-first : (b : ℕ) (ps : List (List ℕ)) → setting (w ∷ o ∷ n ∷ onFirst b ps) ≡ none
+    on-first b [] = refl
+    on-first b (p ∷ ps) = refl
+
+    by-test : (b : ℕ) (bs : List ℕ) (t : Bool) → setting (w ∷ o ∷ n ∷ cond t ([] ∷ split s bs) (onFirst b (split s bs))) ≡ none
+    by-test b bs true = refl
+    by-test b bs false = on-first b (split s bs)
+
+    some-part : (bs : List ℕ) → setting (w ∷ o ∷ n ∷ split s bs) ≡ none
+    some-part [] = refl
+    some-part (b ∷ bs) = by-test b bs (eqb b s)
 
 -- ELEMENTS: those before, and the fields that are left
 abbrev pub togo : ℕ → ℕ → List ℕ → List (List ℕ) → Option (List ℕ)

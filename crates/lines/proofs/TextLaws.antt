@@ -1,17 +1,21 @@
 -- Parts of a text and their numbers.
 -- Assumes nothing.
 use Prim.Native.Nat.{ℕ, zero, suc, _+_, _*_, _^_, _<_, _≤_}
-use mathlib.Core.Bool.{Bool, true, false}
+use mathlib.Core.Bool.{Bool, true, false, _&&_}
 use mathlib.Core.List.{List, [], _∷_}
-use mathlib.Core.Path.{_≡_, refl, ap, _∙_}
+use mathlib.Core.Path.{_≡_, refl, ap, ap₂, _∙_}
 use mathlib.Core.Option.{Option, none, some}
 use native.Mathlib.Nat.{mul-le-mul-left, mul-one, pow-suc, pow-le-pow-right}
 use native.Mathlib.Omega.{arith}
 use borrow.Author.Tests.{eq-eqb, ne-eqb, lt-ltb, le-ltb, ltb-true, ltb-false}
 use lib.Dec.{eqb, ltb}
-use lib.ListN.{length, getD, drop}
-use Rattle.lines.specs.Text.{bind, only, digit, digitIn, number, numberOf, upTo}
+use lib.ListN.{length, getD, drop, drop-of-length-le}
+use Rattle.lines.specs.Text.{bind, only, same, digit, digitIn, number, numberOf, upTo}
 use Rattle.lines.specs.Grammar.{small}
+
+and-false : (b : Bool) → (b && false) ≡ false
+and-false true = refl
+and-false false = refl
 
 pub nonzero : (n : ℕ) → (n ≡ 0 → ⊥) → 0 < n
 nonzero zero h = absurd (h refl)
@@ -97,3 +101,30 @@ numberOf-begins base (x ∷ xs) h = refl
 pub numberOf-nothing : (base : ℕ) (xs : List ℕ) → length xs ≡ 0 → numberOf base xs ≡ none
 numberOf-nothing base [] h = refl
 numberOf-nothing base (x ∷ xs) h = absurd (omega arith)
+
+-- EQUAL TEXTS, a byte at a time
+
+pub same-shorter : (xs ys : List ℕ) → length xs < length ys → same xs ys ≡ false
+same-shorter xs [] h = absurd (omega arith)
+same-shorter [] (y ∷ ys) h = refl
+same-shorter (x ∷ xs) (y ∷ ys) h = rw (same-shorter xs ys (omega arith)) (and-false (eqb x y))
+
+pub same-longer : (xs ys : List ℕ) → length ys < length xs → same xs ys ≡ false
+same-longer [] ys h = absurd (omega arith)
+same-longer (x ∷ xs) [] h = refl
+same-longer (x ∷ xs) (y ∷ ys) h = rw (same-longer xs ys (omega arith)) (and-false (eqb x y))
+
+pub same-more : (xs ys : List ℕ) (i : ℕ) → i < length xs → i < length ys → getD xs i 0 ≡ getD ys i 0 → same (drop i xs) (drop i ys) ≡ same (drop (i + 1) xs) (drop (i + 1) ys)
+same-more [] ys i h l e = absurd (omega arith)
+same-more (x ∷ xs) [] i h l e = absurd (omega arith)
+same-more (x ∷ xs) (y ∷ ys) zero h l e = rw (eq-eqb x y e)
+same-more (x ∷ xs) (y ∷ ys) (suc i) h l e = let m : suc i + 1 ≡ suc (i + 1) = omega arith in rw m (same-more xs ys i (omega arith) (omega arith) e)
+
+pub same-differs : (xs ys : List ℕ) (i : ℕ) → i < length xs → i < length ys → (getD xs i 0 ≡ getD ys i 0 → ⊥) → same (drop i xs) (drop i ys) ≡ false
+same-differs [] ys i h l e = absurd (omega arith)
+same-differs (x ∷ xs) [] i h l e = absurd (omega arith)
+same-differs (x ∷ xs) (y ∷ ys) zero h l e = rw (ne-eqb x y e)
+same-differs (x ∷ xs) (y ∷ ys) (suc i) h l e = same-differs xs ys i (omega arith) (omega arith) e
+
+pub same-end : (xs ys : List ℕ) (i : ℕ) → length xs ≤ i → length ys ≤ i → same (drop i xs) (drop i ys) ≡ true
+same-end xs ys i h l = ap₂ same (drop-of-length-le xs {i = i} h) (drop-of-length-le ys {i = i} l)

@@ -8,13 +8,12 @@ use lib.Dec.{ltb, leb}
 use lib.ListN.{length}
 use Rattle.words.specs.declared.order.BitOrder.{BitOrder}
 use Rattle.words.specs.declared.order.BitOrder.the-variants.{Msb, Lsb}
+use Rattle.lines.specs.declared.parse.Setting.{Setting}
 use Rattle.lines.specs.Text.{bytes, newline, space, same, split, bind, only, numberOf}
 
 -- what a technician asks for
 pub record Job : Type 0 where
-  pub width : ℕ
-  pub order : BitOrder
-  pub budget : ℕ
+  pub setting : Setting
   pub write : List ℕ
   pub read : ℕ
   pub script : List ℕ
@@ -47,22 +46,21 @@ widthOf field = cond (same field (bytes "8")) (some 8) (cond (same field (bytes 
 abbrev pub orderOf : List ℕ → Option BitOrder
 orderOf field = cond (same field (bytes "M")) (some Msb) (cond (same field (bytes "L")) (some Lsb) none)
 
--- at most 512 elements written, 512 read, 8,000 answers
-abbrev rest : ℕ → BitOrder → ℕ → List ℕ → List ℕ → List ℕ → Option Job
-rest k o budget write read script =
-    bind (elementLine k 512 write) (λ ws.
-    bind (count read) (λ n.
-    bind (only (leb n 512) n) (λ m.
-    bind (elementLine 32 8000 script) (λ vs. some (record { width = k; order = o; budget = budget; write = ws; read = m; script = vs })))))
-
 -- width, order, budget: three fields
-abbrev firstLine : List (List ℕ) → List ℕ → List ℕ → List ℕ → Option Job
-firstLine [] write read script = none
-firstLine (w ∷ []) write read script = none
-firstLine (w ∷ o ∷ []) write read script = none
-firstLine (w ∷ o ∷ n ∷ []) write read script =
-    bind (widthOf w) (λ k. bind (orderOf o) (λ order. bind (count n) (λ budget. rest k order budget write read script)))
-firstLine (w ∷ o ∷ n ∷ x ∷ xs) write read script = none
+abbrev pub setting : List (List ℕ) → Option Setting
+setting [] = none
+setting (w ∷ []) = none
+setting (w ∷ o ∷ []) = none
+setting (w ∷ o ∷ n ∷ []) = bind (widthOf w) (λ k. bind (orderOf o) (λ order. bind (count n) (λ budget. some (record { width = k; order = order; budget = budget }))))
+setting (w ∷ o ∷ n ∷ x ∷ xs) = none
+
+-- at most 512 elements written, 512 read, 8,000 answers
+abbrev pub asked : List ℕ → List ℕ → List ℕ → List ℕ → Option Job
+asked first write read script =
+    bind (setting (split space first)) (λ s.
+    bind (elementLine (s .width) 512 write) (λ ws.
+    bind (bind (count read) (λ n. only (leb n 512) n)) (λ n.
+    bind (elementLine 32 8000 script) (λ vs. some (record { setting = s; write = ws; read = n; script = vs })))))
 
 -- four lines; after the last there may be a newline
 abbrev lines : List (List ℕ) → Option Job
@@ -70,8 +68,8 @@ lines [] = none
 lines (a ∷ []) = none
 lines (a ∷ b ∷ []) = none
 lines (a ∷ b ∷ c ∷ []) = none
-lines (a ∷ b ∷ c ∷ d ∷ []) = firstLine (split space a) b c d
-lines (a ∷ b ∷ c ∷ d ∷ [] ∷ []) = firstLine (split space a) b c d
+lines (a ∷ b ∷ c ∷ d ∷ []) = asked a b c d
+lines (a ∷ b ∷ c ∷ d ∷ [] ∷ []) = asked a b c d
 lines (a ∷ b ∷ c ∷ d ∷ (e ∷ es) ∷ []) = none
 lines (a ∷ b ∷ c ∷ d ∷ e ∷ f ∷ fs) = none
 

@@ -5,6 +5,12 @@ use mathlib.Core.List.{List}
 use mathlib.Core.Path.{_≡_}
 use lib.ListN.{length, take}
 use mathlib.Core.Option.{Option, none, some}
+use Rattle.words.specs.declared.order.BitOrder.{BitOrder}
+use Rattle.lines.specs.declared.parse.First.{First}
+use Rattle.lines.specs.declared.parse.First.the-variants.{Line, Refused}
+use Rattle.lines.specs.declared.parse.Order.{Order}
+use Rattle.lines.specs.declared.parse.Order.the-variants.{Named, Unknown}
+use Rattle.lines.specs.declared.parse.Setting.{Setting}
 use Rattle.lines.specs.Grammar.{elementLine}
 use Rattle.lines.specs.declared.parse.Number.{Number}
 use Rattle.lines.specs.declared.parse.Number.the-variants.{Value, Bad}
@@ -17,3 +23,11 @@ numberAnswer Bad = none
 abbrev pub Elements : ℕ → ℕ → List ℕ → List ℕ → Number → Type 0
 Elements k most line out (Value n) = (n ≤ length out) × (elementLine k most line ≡ some (take n out))
 Elements k most line out Bad = elementLine k most line ≡ none
+
+abbrev pub orderAnswer : Order → Option BitOrder
+orderAnswer (Named o) = some o
+orderAnswer Unknown = none
+
+abbrev pub settingAnswer : First → Option Setting
+settingAnswer (Line s) = some s
+settingAnswer Refused = none

@@ -1,14 +1,34 @@
 // The input: numbers, lines, and the job that they ask for.
 ghost use Prim.Native.Nat.{_+_, _<_, _≤_};
+ghost use mathlib.Core.List.{[], _∷_};
 ghost use mathlib.Core.Path.{_≡_};
+ghost use lib.Dec.{leb};
 ghost use lib.ListN.{length, drop};
-ghost use Rattle.lines.specs.Text.{bind, digit as digitOf, digitIn, upTo, numberOf};
-ghost use Rattle.lines.specs.Grammar.{small, element};
-ghost use Rattle.lines.specs.Parse.{numberAnswer, Elements};
+ghost use Rattle.lines.specs.Text.{space, split, bind, only, same as sameOf, digit as digitOf, digitIn, upTo, numberOf};
+ghost use Rattle.lines.specs.Grammar.{small, count as countOf, element, widthOf, orderOf, setting as settingOf};
+ghost use Rattle.lines.specs.Parse.{numberAnswer, orderAnswer, settingAnswer, Elements};
+use words::order::BitOrder;
 
 pub(crate) enum Number {
     Value(u32),
     Bad,
+}
+
+pub(crate) enum Order {
+    Named(BitOrder),
+    Unknown,
+}
+
+// What the first line says.
+pub struct Setting {
+    pub width: usize,
+    pub order: BitOrder,
+    pub budget: usize,
+}
+
+pub(crate) enum First {
+    Line(Setting),
+    Refused,
 }
 
 fn digit(byte: u8) -> Number
@@ -130,4 +150,105 @@ fn read_elements(k: usize, most: usize, line: &[u8], out: &mut [u32]) -> Number
         }
         from = end + 1;
     }
+}
+
+fn same(a: &[u8], b: &[u8]) -> bool
+    ensures { λ r. ⌜ r ≡ sameOf (now (a .entry)) (now (b .entry)) ⌝ }
+{
+    if a.len() < b.len() {
+        return false;
+    }
+    if b.len() < a.len() {
+        return false;
+    }
+    let mut i = 0;
+    while i < a.len() {
+        if a[i] == b[i] {
+            i += 1;
+        } else {
+            return false;
+        }
+    }
+    true
+}
+
+fn read_width(field: &[u8]) -> Number
+    ensures { λ r. ⌜ numberAnswer r ≡ widthOf (now (field .entry)) ⌝ }
+{
+    if same(field, b"8") {
+        return Number::Value(8);
+    }
+    if same(field, b"16") {
+        return Number::Value(16);
+    }
+    if same(field, b"32") {
+        return Number::Value(32);
+    }
+    Number::Bad
+}
+
+// A count, at most so much.
+fn read_count(field: &[u8], most: u32) -> Number
+    ensures { λ r. ⌜ numberAnswer r ≡ bind (countOf (now (field .entry))) (λ n. only (leb n most) n) ⌝ }
+{
+    match read_number(10, field) {
+        Number::Bad => Number::Bad,
+        Number::Value(n) => {
+            if n <= most {
+                return Number::Value(n);
+            }
+            Number::Bad
+        }
+    }
+}
+
+fn read_order(field: &[u8]) -> Order
+    ensures { λ r. ⌜ orderAnswer r ≡ orderOf (now (field .entry)) ⌝ }
+{
+    if same(field, b"M") {
+        return Order::Named(BitOrder::Msb);
+    }
+    if same(field, b"L") {
+        return Order::Named(BitOrder::Lsb);
+    }
+    Order::Unknown
+}
+
+// The three fields of the first line.
+fn read_setting(width: &[u8], order: &[u8], budget: &[u8]) -> First
+    ensures { λ r. ⌜ settingAnswer r ≡ settingOf (now (width .entry) ∷ now (order .entry) ∷ now (budget .entry) ∷ []) ⌝ }
+{
+    match read_width(width) {
+        Number::Bad => First::Refused,
+        Number::Value(k) => match read_order(order) {
+            Order::Unknown => First::Refused,
+            Order::Named(o) => match read_number(10, budget) {
+                Number::Bad => First::Refused,
+                Number::Value(n) => First::Line(Setting {
+                    width: k as usize,
+                    order: o,
+                    budget: n as usize,
+                }),
+            },
+        },
+    }
+}
+
+// The first line.
+fn read_first(line: &[u8]) -> First
+    ensures { λ r. ⌜ settingAnswer r ≡ settingOf (split space (now (line .entry))) ⌝ }
+{
+    let a = up_to(line, 0, 32);
+    if line.len() <= a {
+        return First::Refused;
+    }
+    let b = up_to(line, a + 1, 32);
+    if line.len() <= b {
+        return First::Refused;
+    }
+    let end = up_to(line, b + 1, 32);
+    if end < line.len() {
+        return First::Refused;
+    }
+    read_setting(&line[..a], &line[a + 1..b], &line[b + 1..end])
 }

@@ -1,0 +1,133 @@
+-- `read_first` meets its contract: the parts of the line, one after the other.
+-- Assumes nothing.
+use Prim.Native.Nat.{ℕ, _+_, _-_}
+use mathlib.Core.List.{List, [], _∷_}
+use mathlib.Core.Path.{_≡_, sym, ap, _∙_}
+use lib.ListN.{take, drop}
+use lib.Seq.{length-take-le}
+use Rattle.lines.specs.Text.{space, split}
+use Rattle.lines.specs.Grammar.{setting}
+use Rattle.lines.proofs.ElementLaws.{later, first-part, next-part, no-part, four-fields}
+use borrow.Author.Needs.{needs}
+use Rattle.lines.proofs.parse.read_first.Statement.{statement}
+use Rattle.lines.proofs.parse.read_first.Tie as tie
+
+up-to-requires : tie.Need-up-to-requires
+up-to-requires c κs = search needs
+
+returns : tie.Need-returns
+returns c =
+    let line = c .before .before .before .args .line .now in
+    let u₁ = c .before .up-to in
+    let p₁ = first-part space line (u₁ .result) (u₁ .ensures .0) (u₁ .ensures .1) in
+    let w = take (u₁ .result) line in
+    sym (ap setting (p₁ ∙ ap (λ (ps : List (List ℕ)). w ∷ ps) (no-part space line (u₁ .result) (c .if1 .taken))))
+
+add-up-to : tie.Need-add-up-to
+add-up-to c = search needs
+
+up-to-requires-2 : tie.Need-up-to-requires-2
+up-to-requires-2 c κs = search needs
+
+returns-2 : tie.Need-returns-2
+returns-2 c =
+    let line = c .before .before .before .before .before .args .line .now in
+    let u₁ = c .before .before .before .up-to in
+    let p₁ = first-part space line (u₁ .result) (u₁ .ensures .0) (u₁ .ensures .1) in
+    let w = take (u₁ .result) line in
+    let u₂ = c .before .up-to2 in
+    let p₂ = next-part space line (u₁ .result) (u₂ .result) (c .before .before .if1 .left) (u₂ .ensures .0) (u₂ .ensures .1) in
+    let o = take (u₂ .result - (u₁ .result + 1)) (drop (u₁ .result + 1) line) in
+    sym (ap setting (p₁ ∙ ap (λ (ps : List (List ℕ)). w ∷ ps) (p₂ ∙ ap (λ (ps : List (List ℕ)). o ∷ ps) (no-part space line (u₂ .result) (c .if2 .taken)))))
+
+add-up-to-2 : tie.Need-add-up-to-2
+add-up-to-2 c = search needs
+
+up-to-requires-3 : tie.Need-up-to-requires-3
+up-to-requires-3 c κs = search needs
+
+returns-3 : tie.Need-returns-3
+returns-3 c =
+    let line = c .before .before .before .before .before .before .before .args .line .now in
+    let u₁ = c .before .before .before .before .before .up-to in
+    let p₁ = first-part space line (u₁ .result) (u₁ .ensures .0) (u₁ .ensures .1) in
+    let w = take (u₁ .result) line in
+    let u₂ = c .before .before .before .up-to2 in
+    let p₂ = next-part space line (u₁ .result) (u₂ .result) (c .before .before .before .before .if1 .left) (u₂ .ensures .0) (u₂ .ensures .1) in
+    let o = take (u₂ .result - (u₁ .result + 1)) (drop (u₁ .result + 1) line) in
+    let u₃ = c .before .up-to3 in
+    let p₃ = next-part space line (u₂ .result) (u₃ .result) (c .before .before .if2 .left) (u₃ .ensures .0) (u₃ .ensures .1) in
+    let n = take (u₃ .result - (u₂ .result + 1)) (drop (u₂ .result + 1) line) in
+    let parts : split space line ≡ w ∷ o ∷ n ∷ later space line (u₃ .result) =
+    p₁ ∙ ap (λ (ps : List (List ℕ)). w ∷ ps) (p₂ ∙ ap (λ (ps : List (List ℕ)). o ∷ ps) p₃) in
+    sym (ap setting parts ∙ four-fields w o n space line (u₃ .result) (c .if3 .taken))
+
+slice-aggregate-read-setting : tie.Need-slice-aggregate-read-setting
+slice-aggregate-read-setting c = sym (length-take-le _ _ (search needs))
+
+add-read-setting : tie.Need-add-read-setting
+add-read-setting c = search needs
+
+sub-read-setting : tie.Need-sub-read-setting
+sub-read-setting c = search needs
+
+part-read-setting-start : tie.Need-part-read-setting-start
+part-read-setting-start c = search needs
+
+part-read-setting-end : tie.Need-part-read-setting-end
+part-read-setting-end c = search needs
+
+add-read-setting-2 : tie.Need-add-read-setting-2
+add-read-setting-2 c = search needs
+
+sub-read-setting-2 : tie.Need-sub-read-setting-2
+sub-read-setting-2 c = search needs
+
+part-read-setting-start-2 : tie.Need-part-read-setting-start-2
+part-read-setting-start-2 c = search needs
+
+part-read-setting-end-2 : tie.Need-part-read-setting-end-2
+part-read-setting-end-2 c = search needs
+
+read-setting-requires : tie.Need-read-setting-requires
+read-setting-requires c κs = search needs
+
+returns-4 : tie.Need-returns-4
+returns-4 c =
+    let line = c .before .before .before .before .before .before .before .before .before .before .before .args .line .now in
+    let u₁ = c .before .before .before .before .before .before .before .before .before .up-to in
+    let p₁ = first-part space line (u₁ .result) (u₁ .ensures .0) (u₁ .ensures .1) in
+    let w = take (u₁ .result) line in
+    let u₂ = c .before .before .before .before .before .before .before .up-to2 in
+    let p₂ = next-part space line (u₁ .result) (u₂ .result) (c .before .before .before .before .before .before .before .before .if1 .left) (u₂ .ensures .0) (u₂ .ensures .1) in
+    let o = take (u₂ .result - (u₁ .result + 1)) (drop (u₁ .result + 1) line) in
+    let u₃ = c .before .before .before .before .before .up-to3 in
+    let p₃ = next-part space line (u₂ .result) (u₃ .result) (c .before .before .before .before .before .before .if2 .left) (u₃ .ensures .0) (u₃ .ensures .1) in
+    let n = take (u₃ .result - (u₂ .result + 1)) (drop (u₂ .result + 1) line) in
+    let parts : split space line ≡ w ∷ o ∷ n ∷ later space line (u₃ .result) =
+    p₁ ∙ ap (λ (ps : List (List ℕ)). w ∷ ps) (p₂ ∙ ap (λ (ps : List (List ℕ)). o ∷ ps) p₃) in
+    c .read-setting .ensures ∙ sym (ap setting (parts ∙ ap (λ (ps : List (List ℕ)). w ∷ o ∷ n ∷ ps) (no-part space line (u₃ .result) (c .before .before .before .before .if3 .left))))
+
+pub read-first-spec : {M : Type 1} → statement M
+read-first-spec =
+    tie.close
+    (tie.spec
+    up-to-requires
+    returns
+    add-up-to
+    up-to-requires-2
+    returns-2
+    add-up-to-2
+    up-to-requires-3
+    returns-3
+    slice-aggregate-read-setting
+    add-read-setting
+    sub-read-setting
+    part-read-setting-start
+    part-read-setting-end
+    add-read-setting-2
+    sub-read-setting-2
+    part-read-setting-start-2
+    part-read-setting-end-2
+    read-setting-requires
+    returns-4)
