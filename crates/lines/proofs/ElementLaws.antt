@@ -3,15 +3,20 @@
 use Prim.Native.Nat.{ℕ, zero, suc, _+_, _-_, _<_, _≤_}
 use mathlib.Core.Bool.{Bool, true, false, cond}
 use mathlib.Core.List.{List, [], _∷_, _++_, append-nil, append-assoc}
-use mathlib.Core.Option.{Option, none, some}
+use mathlib.Core.Option.{Option, none, some, Option·some-injective, Option·none-ne-some}
 use mathlib.Core.Path.{_≡_, refl, sym, ap, ap₂, _∙_, subst}
 use native.Mathlib.Omega.{arith}
-use borrow.Author.Tests.{lt-ltb, le-ltb, ltb-true, ltb-false, le-leb, lt-leb}
+use borrow.Author.Tests.{lt-ltb, le-ltb, ltb-true, ltb-false, leb-true, le-leb, lt-leb}
 use lib.Dec.{eqb, ltb, leb}
-use lib.ListN.{length, take, drop, length-append, length-drop}
+use lib.ListN.{length, take, drop, length-append, length-drop, drop-of-length-le}
 use lib.Seq.{take-all, drop-drop}
-use Rattle.lines.specs.Text.{space, split, onFirst, upTo, bind, only}
-use Rattle.lines.specs.Grammar.{element, elements, elementLine, setting}
+use Rattle.lines.specs.Text.{bytes, newline, space, same, split, onFirst, upTo, bind, only}
+use Rattle.words.specs.declared.order.BitOrder.{BitOrder}
+use Rattle.lines.specs.declared.parse.Number.{Number}
+use Rattle.lines.specs.declared.parse.Parsed.{Parsed}
+use Rattle.lines.specs.declared.parse.Setting.{Setting}
+use Rattle.lines.specs.Parse.{Elements, Answers}
+use Rattle.lines.specs.Grammar.{Job, count, element, elements, elementLine, orderOf, setting, asked, lines}
 
 -- PARTS
 pub split-more : (s : ℕ) (bs : List ℕ) → upTo s bs < length bs → split s bs ≡ take (upTo s bs) bs ∷ split s (drop (upTo s bs + 1) bs)
@@ -121,3 +126,78 @@ togo-end k most before h = rw (append-nil before, le-leb (length before) most h)
 pub empty-line : (k most : ℕ) (line : List ℕ) → length line ≡ 0 → elementLine k most line ≡ some []
 empty-line k most [] h = refl
 empty-line k most (b ∷ bs) h = absurd (omega arith)
+
+-- ANSWERS of the code
+
+pub as-elements : (k most : ℕ) (line out : List ℕ) (r r′ : Number) → r ≡ r′ → Elements k most line out r → Elements k most line out r′
+as-elements k most line out r r′ e h = subst (Elements k most line out) e h
+
+pub at-most : (m n : ℕ) (o : Option ℕ) → bind o (λ x. only (leb x m) x) ≡ some n → n ≤ m
+at-most m n none e = absurd (Option·none-ne-some n e)
+at-most m n (some x) e = by-test (leb x m) refl e
+  where
+    by-test : (t : Bool) → leb x m ≡ t → only t x ≡ some n → n ≤ m
+    by-test true t q = subst (λ (y : ℕ). y ≤ m) (Option·some-injective x n q) (leb-true x m t)
+    by-test false t q = absurd (Option·none-ne-some n q)
+
+-- a width that was read is at most 32
+pub width-small : (w o n : List ℕ) (s : Setting) → setting (w ∷ o ∷ n ∷ []) ≡ some s → s .width ≤ 32
+width-small w o n s e = by-width (same w (bytes "8")) (same w (bytes "16")) (same w (bytes "32")) e
+  where
+    by-rest : (k : ℕ) (p : Option BitOrder) (q : Option ℕ) → k ≤ 32 → bind p (λ order. bind q (λ budget. some (record { width = k; order = order; budget = budget }))) ≡ some s → s .width ≤ 32
+    by-rest k none q h e = absurd (Option·none-ne-some s e)
+    by-rest k (some order) none h e = absurd (Option·none-ne-some s e)
+    by-rest k (some order) (some budget) h e = subst (λ (x : Setting). x .width ≤ 32) (Option·some-injective (record { width = k; order = order; budget = budget }) s e) h
+
+    by-width : (x y z : Bool) → bind (cond x (some 8) (cond y (some 16) (cond z (some 32) none))) (λ k. bind (orderOf o) (λ order. bind (count n) (λ budget. some (record { width = k; order = order; budget = budget })))) ≡ some s → s .width ≤ 32
+    by-width true y z e = by-rest 8 (orderOf o) (count n) (omega arith) e
+    by-width false true z e = by-rest 16 (orderOf o) (count n) (omega arith) e
+    by-width false false true e = by-rest 32 (orderOf o) (count n) (omega arith) e
+    by-width false false false e = absurd (Option·none-ne-some s e)
+
+pub setting-small : (fs : List (List ℕ)) (s : Setting) → setting fs ≡ some s → s .width ≤ 32
+setting-small [] s e = absurd (Option·none-ne-some s e)
+setting-small (w ∷ []) s e = absurd (Option·none-ne-some s e)
+setting-small (w ∷ o ∷ []) s e = absurd (Option·none-ne-some s e)
+setting-small (w ∷ o ∷ n ∷ []) s e = width-small w o n s e
+setting-small (w ∷ o ∷ n ∷ x ∷ xs) s e = absurd (Option·none-ne-some s e)
+
+-- more than one newline at the end, or a fifth line
+pub fifth-line : (a b c d : List ℕ) (text : List ℕ) (end : ℕ) → end + 1 < length text → lines (a ∷ b ∷ c ∷ d ∷ later newline text end) ≡ none
+fifth-line a b c d text end h = rw (lt-ltb end (length text) (omega arith)) (by-rest (drop (end + 1) text) (omega (arith, length-drop (end + 1) text)))
+  where
+    two-parts : (b′ : ℕ) (ps : List (List ℕ)) → lines (a ∷ b ∷ c ∷ d ∷ [] ∷ onFirst b′ ps) ≡ none
+    two-parts b′ [] = refl
+    two-parts b′ (p ∷ ps) = refl
+
+    after-newline : (bs : List ℕ) → lines (a ∷ b ∷ c ∷ d ∷ [] ∷ split newline bs) ≡ none
+    after-newline [] = refl
+    after-newline (x ∷ xs) = by-test (eqb x newline)
+      where
+        by-test : (t : Bool) → lines (a ∷ b ∷ c ∷ d ∷ [] ∷ cond t ([] ∷ split newline xs) (onFirst x (split newline xs))) ≡ none
+        by-test true = refl
+        by-test false = two-parts x (split newline xs)
+
+    on-first : (x : ℕ) (ps : List (List ℕ)) → lines (a ∷ b ∷ c ∷ d ∷ onFirst x ps) ≡ none
+    on-first x [] = refl
+    on-first x (p ∷ []) = refl
+    on-first x (p ∷ q ∷ qs) = refl
+
+    by-rest : (bs : List ℕ) → 0 < length bs → lines (a ∷ b ∷ c ∷ d ∷ split newline bs) ≡ none
+    by-rest [] l = absurd (omega arith)
+    by-rest (x ∷ xs) l = by-test (eqb x newline)
+      where
+        by-test : (t : Bool) → lines (a ∷ b ∷ c ∷ d ∷ cond t ([] ∷ split newline xs) (onFirst x (split newline xs))) ≡ none
+        by-test true = after-newline xs
+        by-test false = on-first x (split newline xs)
+
+-- the end of the text, or its newline
+pub four-lines : (a b c d : List ℕ) (text : List ℕ) (end : ℕ) → length text ≤ end + 1 → lines (a ∷ b ∷ c ∷ d ∷ later newline text end) ≡ asked a b c d
+four-lines a b c d text end h = by-test (ltb end (length text))
+  where
+    by-test : (t : Bool) → lines (a ∷ b ∷ c ∷ d ∷ cond t (split newline (drop (end + 1) text)) []) ≡ asked a b c d
+    by-test true = ap (λ (bs : List ℕ). lines (a ∷ b ∷ c ∷ d ∷ split newline bs)) (drop-of-length-le text {i = end + 1} h)
+    by-test false = refl
+
+pub as-answers : (o o′ : Option Job) (write script : List ℕ) (r : Parsed) → o ≡ o′ → Answers o write script r → Answers o′ write script r
+as-answers o o′ write script r e h = subst (λ (x : Option Job). Answers x write script r) e h

@@ -55,15 +55,17 @@ setting (w ∷ o ∷ n ∷ []) = bind (widthOf w) (λ k. bind (orderOf o) (λ or
 setting (w ∷ o ∷ n ∷ x ∷ xs) = none
 
 -- at most 512 elements written, 512 read, 8,000 answers
-abbrev pub asked : List ℕ → List ℕ → List ℕ → List ℕ → Option Job
-asked first write read script =
-    bind (setting (split space first)) (λ s.
+abbrev pub askedWith : Setting → List ℕ → List ℕ → List ℕ → Option Job
+askedWith s write read script =
     bind (elementLine (s .width) 512 write) (λ ws.
     bind (bind (count read) (λ n. only (leb n 512) n)) (λ n.
-    bind (elementLine 32 8000 script) (λ vs. some (record { setting = s; write = ws; read = n; script = vs })))))
+    bind (elementLine 32 8000 script) (λ vs. some (record { setting = s; write = ws; read = n; script = vs }))))
+
+abbrev pub asked : List ℕ → List ℕ → List ℕ → List ℕ → Option Job
+asked first write read script = bind (setting (split space first)) (λ s. askedWith s write read script)
 
 -- four lines; after the last there may be a newline
-abbrev lines : List (List ℕ) → Option Job
+abbrev pub lines : List (List ℕ) → Option Job
 lines [] = none
 lines (a ∷ []) = none
 lines (a ∷ b ∷ []) = none

@@ -10,8 +10,10 @@ use Rattle.lines.specs.declared.parse.First.{First}
 use Rattle.lines.specs.declared.parse.First.the-variants.{Line, Refused}
 use Rattle.lines.specs.declared.parse.Order.{Order}
 use Rattle.lines.specs.declared.parse.Order.the-variants.{Named, Unknown}
+use Rattle.lines.specs.declared.parse.Parsed.{Parsed}
+use Rattle.lines.specs.declared.parse.Parsed.the-variants.{Request, Malformed}
 use Rattle.lines.specs.declared.parse.Setting.{Setting}
-use Rattle.lines.specs.Grammar.{elementLine}
+use Rattle.lines.specs.Grammar.{Job, elementLine}
 use Rattle.lines.specs.declared.parse.Number.{Number}
 use Rattle.lines.specs.declared.parse.Number.the-variants.{Value, Bad}
 
@@ -31,3 +33,10 @@ orderAnswer Unknown = none
 abbrev pub settingAnswer : First → Option Setting
 settingAnswer (Line s) = some s
 settingAnswer Refused = none
+
+-- what was asked for: the setting, the length of the read buffer, and the elements at the fronts of two buffers
+abbrev pub Answers : Option Job → List ℕ → List ℕ → Parsed → Type 0
+Answers o write script (Request q) =
+    (q .writes ≤ length write) × (q .reads ≤ 512) × (q .answers ≤ length script)
+    × (o ≡ some (record { setting = q .setting; write = take (q .writes) write; read = q .reads; script = take (q .answers) script }))
+Answers o write script Malformed = o ≡ none

@@ -5,8 +5,8 @@ ghost use mathlib.Core.Path.{_≡_};
 ghost use lib.Dec.{leb};
 ghost use lib.ListN.{length, drop};
 ghost use Rattle.lines.specs.Text.{space, split, bind, only, same as sameOf, digit as digitOf, digitIn, upTo, numberOf};
-ghost use Rattle.lines.specs.Grammar.{small, count as countOf, element, widthOf, orderOf, setting as settingOf};
-ghost use Rattle.lines.specs.Parse.{numberAnswer, orderAnswer, settingAnswer, Elements};
+ghost use Rattle.lines.specs.Grammar.{small, count as countOf, element, widthOf, orderOf, setting as settingOf, askedWith, asked as askedOf, job};
+ghost use Rattle.lines.specs.Parse.{numberAnswer, orderAnswer, settingAnswer, Elements, Answers};
 use words::order::BitOrder;
 
 pub(crate) enum Number {
@@ -29,6 +29,19 @@ pub struct Setting {
 pub(crate) enum First {
     Line(Setting),
     Refused,
+}
+
+// What the four lines ask for; the elements stand in buffers.
+pub struct Asked {
+    pub setting: Setting,
+    pub writes: usize,
+    pub reads: usize,
+    pub answers: usize,
+}
+
+pub enum Parsed {
+    Request(Asked),
+    Malformed,
 }
 
 fn digit(byte: u8) -> Number
@@ -251,4 +264,83 @@ fn read_first(line: &[u8]) -> First
         return First::Refused;
     }
     read_setting(&line[..a], &line[a + 1..b], &line[b + 1..end])
+}
+
+// The lines after the first.
+fn read_rest(
+    setting: Setting,
+    write: &[u8],
+    read: &[u8],
+    script: &[u8],
+    written: &mut [u32],
+    answers: &mut [u32],
+) -> Parsed
+    requires { ⌜ (setting .width ≤ 32) × (512 ≤ length (now written)) × (8000 ≤ length (now answers)) ⌝ }
+    ensures { λ r. ⌜ Answers (askedWith setting (now (write .entry)) (now (read .entry)) (now (script .entry))) (now (written .exit)) (now (answers .exit)) r ⌝ }
+{
+    match read_elements(setting.width, 512, write, written) {
+        Number::Bad => Parsed::Malformed,
+        Number::Value(w) => match read_count(read, 512) {
+            Number::Bad => Parsed::Malformed,
+            Number::Value(n) => match read_elements(32, 8000, script, answers) {
+                Number::Bad => Parsed::Malformed,
+                Number::Value(v) => Parsed::Request(Asked {
+                    setting,
+                    writes: w as usize,
+                    reads: n as usize,
+                    answers: v as usize,
+                }),
+            },
+        },
+    }
+}
+
+// Four lines.
+fn read_lines(
+    first: &[u8],
+    write: &[u8],
+    read: &[u8],
+    script: &[u8],
+    written: &mut [u32],
+    answers: &mut [u32],
+) -> Parsed
+    requires { ⌜ (512 ≤ length (now written)) × (8000 ≤ length (now answers)) ⌝ }
+    ensures { λ r. ⌜ Answers (askedOf (now (first .entry)) (now (write .entry)) (now (read .entry)) (now (script .entry))) (now (written .exit)) (now (answers .exit)) r ⌝ }
+{
+    match read_first(first) {
+        First::Refused => Parsed::Malformed,
+        First::Line(s) => read_rest(s, write, read, script, written, answers),
+    }
+}
+
+// The job of a text, and its elements at the fronts of two buffers.
+fn read_job(text: &[u8], written: &mut [u32], answers: &mut [u32]) -> Parsed
+    requires { ⌜ (512 ≤ length (now written)) × (8000 ≤ length (now answers)) ⌝ }
+    ensures { λ r. ⌜ Answers (job (now (text .entry))) (now (written .exit)) (now (answers .exit)) r ⌝ }
+{
+    let a = up_to(text, 0, 10);
+    if text.len() <= a {
+        return Parsed::Malformed;
+    }
+    let b = up_to(text, a + 1, 10);
+    if text.len() <= b {
+        return Parsed::Malformed;
+    }
+    let c = up_to(text, b + 1, 10);
+    if text.len() <= c {
+        return Parsed::Malformed;
+    }
+    let end = up_to(text, c + 1, 10);
+    // Nothing may follow but a newline.
+    if 1 < text.len() - end {
+        return Parsed::Malformed;
+    }
+    read_lines(
+        &text[..a],
+        &text[a + 1..b],
+        &text[b + 1..c],
+        &text[c + 1..end],
+        written,
+        answers,
+    )
 }
