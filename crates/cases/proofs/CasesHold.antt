@@ -5,15 +5,10 @@ use mathlib.Core.Bool.{Bool, true, false, _&&_}
 use mathlib.Core.List.{List, [], _∷_}
 use mathlib.Core.Path.{_≡_, refl, ap₂}
 use lib.Dec.{T, eqb, eqb→eq}
+use Rattle.lines.specs.Text.{same}
 use Rattle.machine.specs.Transfer.{dueAccess, resumed}
 use Rattle.runs.specs.Run.{times, step, afterAccess}
 use Rattle.cases.specs.Cases.{Case, cases, Hold}
-
-abbrev same : List ℕ → List ℕ → Bool
-same [] [] = true
-same [] (y ∷ ys) = false
-same (x ∷ xs) [] = false
-same (x ∷ xs) (y ∷ ys) = eqb x y && same xs ys
 
 abbrev passed : List Case → Bool
 passed [] = true

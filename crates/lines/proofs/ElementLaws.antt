@@ -14,9 +14,9 @@ use Rattle.lines.specs.Text.{bytes, newline, space, same, split, onFirst
 use Rattle.words.specs.declared.order.BitOrder.{BitOrder}
 use Rattle.lines.specs.declared.parse.Number.{Number}
 use Rattle.lines.specs.declared.parse.Parsed.{Parsed}
-use Rattle.lines.specs.declared.parse.Setting.{Setting}
+use Rattle.lines.specs.declared.parse.Header.{Header}
 use Rattle.lines.specs.Parse.{Elements, Answers}
-use Rattle.lines.specs.Grammar.{Job, count, element, elements, elementLine, orderOf, setting, asked, lines}
+use Rattle.lines.specs.Grammar.{Job, count, element, elements, lineElements, orderOf, header, asked, lines}
 
 -- PARTS
 pub split-more : (s : ℕ) (bs : List ℕ) → upTo s bs < length bs → split s bs ≡ take (upTo s bs) bs ∷ split s (drop (upTo s bs + 1) bs)
@@ -79,18 +79,18 @@ pub no-part : (s : ℕ) (line : List ℕ) (a : ℕ) → length line ≤ a → la
 no-part s line a h = rw (le-ltb a (length line) h)
 
 -- a fourth field on the first line
-pub four-fields : (w o n : List ℕ) (s : ℕ) (line : List ℕ) (a : ℕ) → a < length line → setting (w ∷ o ∷ n ∷ later s line a) ≡ none
+pub four-fields : (w o n : List ℕ) (s : ℕ) (line : List ℕ) (a : ℕ) → a < length line → header (w ∷ o ∷ n ∷ later s line a) ≡ none
 four-fields w o n s line a h = rw (lt-ltb a (length line) h) (some-part (drop (a + 1) line))
   where
-    on-first : (b : ℕ) (ps : List (List ℕ)) → setting (w ∷ o ∷ n ∷ onFirst b ps) ≡ none
+    on-first : (b : ℕ) (ps : List (List ℕ)) → header (w ∷ o ∷ n ∷ onFirst b ps) ≡ none
     on-first b [] = refl
     on-first b (p ∷ ps) = refl
 
-    by-test : (b : ℕ) (bs : List ℕ) (t : Bool) → setting (w ∷ o ∷ n ∷ cond t ([] ∷ split s bs) (onFirst b (split s bs))) ≡ none
+    by-test : (b : ℕ) (bs : List ℕ) (t : Bool) → header (w ∷ o ∷ n ∷ cond t ([] ∷ split s bs) (onFirst b (split s bs))) ≡ none
     by-test b bs true = refl
     by-test b bs false = on-first b (split s bs)
 
-    some-part : (bs : List ℕ) → setting (w ∷ o ∷ n ∷ split s bs) ≡ none
+    some-part : (bs : List ℕ) → header (w ∷ o ∷ n ∷ split s bs) ≡ none
     some-part [] = refl
     some-part (b ∷ bs) = by-test b bs (eqb b s)
 
@@ -98,7 +98,7 @@ four-fields w o n s line a h = rw (lt-ltb a (length line) h) (some-part (drop (a
 abbrev pub togo : ℕ → ℕ → List ℕ → List (List ℕ) → Option (List ℕ)
 togo k most before fs = bind (elements k fs) (λ xs. only (leb (length (before ++ xs)) most) (before ++ xs))
 
-pub togo-start : (k most : ℕ) (line : List ℕ) → 0 < length line → togo k most [] (split space line) ≡ elementLine k most line
+pub togo-start : (k most : ℕ) (line : List ℕ) → 0 < length line → togo k most [] (split space line) ≡ lineElements k most line
 togo-start k most [] h = absurd (omega arith)
 togo-start k most (b ∷ bs) h = refl
 
@@ -123,7 +123,7 @@ togo-over k most before fs h = by-rest (elements k fs)
 pub togo-end : (k most : ℕ) (before : List ℕ) → length before ≤ most → togo k most before [] ≡ some before
 togo-end k most before h = rw (append-nil before, le-leb (length before) most h)
 
-pub empty-line : (k most : ℕ) (line : List ℕ) → length line ≡ 0 → elementLine k most line ≡ some []
+pub empty-line : (k most : ℕ) (line : List ℕ) → length line ≡ 0 → lineElements k most line ≡ some []
 empty-line k most [] h = refl
 empty-line k most (b ∷ bs) h = absurd (omega arith)
 
@@ -141,13 +141,13 @@ at-most m n (some x) e = by-test (leb x m) refl e
     by-test false t q = absurd (Option·none-ne-some n q)
 
 -- a width that was read is at most 32
-pub width-small : (w o n : List ℕ) (s : Setting) → setting (w ∷ o ∷ n ∷ []) ≡ some s → s .width ≤ 32
+pub width-small : (w o n : List ℕ) (s : Header) → header (w ∷ o ∷ n ∷ []) ≡ some s → s .width ≤ 32
 width-small w o n s e = by-width (same w (bytes "8")) (same w (bytes "16")) (same w (bytes "32")) e
   where
     by-rest : (k : ℕ) (p : Option BitOrder) (q : Option ℕ) → k ≤ 32 → bind p (λ order. bind q (λ budget. some (record { width = k; order = order; budget = budget }))) ≡ some s → s .width ≤ 32
     by-rest k none q h e = absurd (Option·none-ne-some s e)
     by-rest k (some order) none h e = absurd (Option·none-ne-some s e)
-    by-rest k (some order) (some budget) h e = subst (λ (x : Setting). x .width ≤ 32) (Option·some-injective (record { width = k; order = order; budget = budget }) s e) h
+    by-rest k (some order) (some budget) h e = subst (λ (x : Header). x .width ≤ 32) (Option·some-injective (record { width = k; order = order; budget = budget }) s e) h
 
     by-width : (x y z : Bool) → bind (cond x (some 8) (cond y (some 16) (cond z (some 32) none))) (λ k. bind (orderOf o) (λ order. bind (count n) (λ budget. some (record { width = k; order = order; budget = budget })))) ≡ some s → s .width ≤ 32
     by-width true y z e = by-rest 8 (orderOf o) (count n) (omega arith) e
@@ -155,12 +155,12 @@ width-small w o n s e = by-width (same w (bytes "8")) (same w (bytes "16")) (sam
     by-width false false true e = by-rest 32 (orderOf o) (count n) (omega arith) e
     by-width false false false e = absurd (Option·none-ne-some s e)
 
-pub setting-small : (fs : List (List ℕ)) (s : Setting) → setting fs ≡ some s → s .width ≤ 32
-setting-small [] s e = absurd (Option·none-ne-some s e)
-setting-small (w ∷ []) s e = absurd (Option·none-ne-some s e)
-setting-small (w ∷ o ∷ []) s e = absurd (Option·none-ne-some s e)
-setting-small (w ∷ o ∷ n ∷ []) s e = width-small w o n s e
-setting-small (w ∷ o ∷ n ∷ x ∷ xs) s e = absurd (Option·none-ne-some s e)
+pub header-small : (fs : List (List ℕ)) (s : Header) → header fs ≡ some s → s .width ≤ 32
+header-small [] s e = absurd (Option·none-ne-some s e)
+header-small (w ∷ []) s e = absurd (Option·none-ne-some s e)
+header-small (w ∷ o ∷ []) s e = absurd (Option·none-ne-some s e)
+header-small (w ∷ o ∷ n ∷ []) s e = width-small w o n s e
+header-small (w ∷ o ∷ n ∷ x ∷ xs) s e = absurd (Option·none-ne-some s e)
 
 -- more than one newline at the end, or a fifth line
 pub fifth-line : (a b c d : List ℕ) (text : List ℕ) (end : ℕ) → end + 1 < length text → lines (a ∷ b ∷ c ∷ d ∷ later newline text end) ≡ none

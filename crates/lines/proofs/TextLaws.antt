@@ -10,7 +10,7 @@ use native.Mathlib.Omega.{arith}
 use borrow.Author.Tests.{eq-eqb, ne-eqb, lt-ltb, le-ltb, ltb-true, ltb-false}
 use lib.Dec.{eqb, ltb}
 use lib.ListN.{length, getD, drop, drop-of-length-le}
-use Rattle.lines.specs.Text.{bind, only, same, digit, digitIn, number, numberOf, upTo}
+use Rattle.lines.specs.Text.{bind, only, same, digit, digitIn, numeralFrom, numeral, upTo}
 use Rattle.lines.specs.Grammar.{small}
 
 and-false : (b : Bool) → (b && false) ≡ false
@@ -48,28 +48,28 @@ up-to-end s (x ∷ xs) (suc n) h = up-to-end s xs n (omega arith)
 
 -- NUMBERS, a digit at a time
 
-pub number-more : (base n : ℕ) (xs : List ℕ) (i d : ℕ) → i < length xs → digitIn base (getD xs i 0) ≡ some d → number base n (drop i xs) ≡ number base (n * base + d) (drop (i + 1) xs)
+pub number-more : (base n : ℕ) (xs : List ℕ) (i d : ℕ) → i < length xs → digitIn base (getD xs i 0) ≡ some d → numeralFrom base n (drop i xs) ≡ numeralFrom base (n * base + d) (drop (i + 1) xs)
 number-more base n [] i d h e = absurd (omega arith)
 number-more base n (x ∷ xs) zero d h e = rw e
 number-more base n (x ∷ xs) (suc i) d h e = let m : suc i + 1 ≡ suc (i + 1) = omega arith in rw m (number-more base n xs i d (omega arith) e)
 
-pub number-bad : (base n : ℕ) (xs : List ℕ) (i : ℕ) → i < length xs → digitIn base (getD xs i 0) ≡ none → number base n (drop i xs) ≡ none
+pub number-bad : (base n : ℕ) (xs : List ℕ) (i : ℕ) → i < length xs → digitIn base (getD xs i 0) ≡ none → numeralFrom base n (drop i xs) ≡ none
 number-bad base n [] i h e = absurd (omega arith)
 number-bad base n (x ∷ xs) zero h e = rw e
 number-bad base n (x ∷ xs) (suc i) h e = number-bad base n xs i (omega arith) e
 
-pub number-end : (base n : ℕ) (xs : List ℕ) (i : ℕ) → length xs ≤ i → number base n (drop i xs) ≡ some n
+pub number-end : (base n : ℕ) (xs : List ℕ) (i : ℕ) → length xs ≤ i → numeralFrom base n (drop i xs) ≡ some n
 number-end base n [] zero h = refl
 number-end base n [] (suc i) h = refl
 number-end base n (x ∷ xs) zero h = absurd (omega arith)
 number-end base n (x ∷ xs) (suc i) h = number-end base n xs i (omega arith)
 
 -- a number that is too large stays so
-pub number-large : (base n : ℕ) (xs : List ℕ) → 0 < base → 2 ^ 32 ≤ n → bind (number base n xs) small ≡ none
+pub number-large : (base n : ℕ) (xs : List ℕ) → 0 < base → 2 ^ 32 ≤ n → bind (numeralFrom base n xs) small ≡ none
 number-large base n [] h l = rw (le-ltb n (2 ^ 32) l)
 number-large base n (x ∷ xs) h l = by-digit (digitIn base x) (λ d. number-large base (n * base + d) xs h (omega (arith, mul-le-mul-left n h, mul-one n)))
   where
-    by-digit : (o : Option ℕ) → ((d : ℕ) → bind (number base (n * base + d) xs) small ≡ none) → bind (bind o (λ d. number base (n * base + d) xs)) small ≡ none
+    by-digit : (o : Option ℕ) → ((d : ℕ) → bind (numeralFrom base (n * base + d) xs) small ≡ none) → bind (bind o (λ d. numeralFrom base (n * base + d) xs)) small ≡ none
     by-digit none f = refl
     by-digit (some d) f = f d
 
@@ -77,30 +77,30 @@ number-large base n (x ∷ xs) h l = by-digit (digitIn base x) (λ d. number-lar
 below : (j : ℕ) → j ≤ 8 → 16 ^ j ≤ 2 ^ 32
 below j h = pow-le-pow-right {n = 16} (omega arith) {i = j} {j = 8} h
 
-number-fits : (n j : ℕ) (xs : List ℕ) → n < 16 ^ j → j + length xs ≤ 8 → bind (number 16 n xs) small ≡ number 16 n xs
+number-fits : (n j : ℕ) (xs : List ℕ) → n < 16 ^ j → j + length xs ≤ 8 → bind (numeralFrom 16 n xs) small ≡ numeralFrom 16 n xs
 number-fits n j [] l h = rw (lt-ltb n (2 ^ 32) (omega (arith, below j (omega arith))))
 number-fits n j (x ∷ xs) l h = by-digit (digit x) (λ d e. number-fits (n * 16 + d) (suc j) xs (omega (arith, pow-suc 16 j)) (omega arith))
   where
-    by-digit : (o : Option ℕ) → ((d : ℕ) → d < 16 → bind (number 16 (n * 16 + d) xs) small ≡ number 16 (n * 16 + d) xs)
-        → bind (bind (bind o (λ d. only (ltb d 16) d)) (λ d. number 16 (n * 16 + d) xs)) small ≡ bind (bind o (λ d. only (ltb d 16) d)) (λ d. number 16 (n * 16 + d) xs)
+    by-digit : (o : Option ℕ) → ((d : ℕ) → d < 16 → bind (numeralFrom 16 (n * 16 + d) xs) small ≡ numeralFrom 16 (n * 16 + d) xs)
+        → bind (bind (bind o (λ d. only (ltb d 16) d)) (λ d. numeralFrom 16 (n * 16 + d) xs)) small ≡ bind (bind o (λ d. only (ltb d 16) d)) (λ d. numeralFrom 16 (n * 16 + d) xs)
     by-digit none f = refl
     by-digit (some d) f = by-test (ltb d 16) refl
       where
-        by-test : (t : Bool) → ltb d 16 ≡ t → bind (bind (only t d) (λ d. number 16 (n * 16 + d) xs)) small ≡ bind (only t d) (λ d. number 16 (n * 16 + d) xs)
+        by-test : (t : Bool) → ltb d 16 ≡ t → bind (bind (only t d) (λ d. numeralFrom 16 (n * 16 + d) xs)) small ≡ bind (only t d) (λ d. numeralFrom 16 (n * 16 + d) xs)
         by-test true e = f d (ltb-true d 16 e)
         by-test false e = refl
 
-pub numberOf-fits : (xs : List ℕ) → length xs ≤ 8 → bind (numberOf 16 xs) small ≡ numberOf 16 xs
-numberOf-fits [] h = refl
-numberOf-fits (x ∷ xs) h = number-fits 0 0 (x ∷ xs) (omega arith) (omega arith)
+pub numeral-fits : (xs : List ℕ) → length xs ≤ 8 → bind (numeral 16 xs) small ≡ numeral 16 xs
+numeral-fits [] h = refl
+numeral-fits (x ∷ xs) h = number-fits 0 0 (x ∷ xs) (omega arith) (omega arith)
 
-pub numberOf-begins : (base : ℕ) (xs : List ℕ) → 0 < length xs → numberOf base xs ≡ number base 0 xs
-numberOf-begins base [] h = absurd (omega arith)
-numberOf-begins base (x ∷ xs) h = refl
+pub numeral-begins : (base : ℕ) (xs : List ℕ) → 0 < length xs → numeral base xs ≡ numeralFrom base 0 xs
+numeral-begins base [] h = absurd (omega arith)
+numeral-begins base (x ∷ xs) h = refl
 
-pub numberOf-nothing : (base : ℕ) (xs : List ℕ) → length xs ≡ 0 → numberOf base xs ≡ none
-numberOf-nothing base [] h = refl
-numberOf-nothing base (x ∷ xs) h = absurd (omega arith)
+pub numeral-nothing : (base : ℕ) (xs : List ℕ) → length xs ≡ 0 → numeral base xs ≡ none
+numeral-nothing base [] h = refl
+numeral-nothing base (x ∷ xs) h = absurd (omega arith)
 
 -- EQUAL TEXTS, a byte at a time
 

@@ -17,7 +17,7 @@ zeros (suc n) = 0 ∷ zeros n
 -- mode 0, PCS 0; the read buffer starts as zeros; the log has just the places of the budget, and of 8,000 where it is more
 abbrev pub exchanged : Job → TransferLeft
 exchanged j =
-    let s = j .setting in
+    let s = j .header in
     exchangeSeparate (s .width) (withOrder (s .order) startDriver) (zeros (j .read)) (j .write) (s .budget) (j .script) (zeros (2 * min (s .budget) 8000))
 
 -- accesses, read elements, then the result
@@ -29,7 +29,7 @@ listing k t =
 -- anything else prints `bad`
 abbrev answer : Option Job → List ℕ
 answer none = bytes "bad\n"
-answer (some j) = listing (j .setting .width) (exchanged j)
+answer (some j) = listing (j .header .width) (exchanged j)
 
 abbrev pub buslog : List ℕ → List ℕ
 buslog text = answer (job text)

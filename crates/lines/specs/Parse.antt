@@ -12,8 +12,8 @@ use Rattle.lines.specs.declared.parse.Order.{Order}
 use Rattle.lines.specs.declared.parse.Order.the-variants.{Named, Unknown}
 use Rattle.lines.specs.declared.parse.Parsed.{Parsed}
 use Rattle.lines.specs.declared.parse.Parsed.the-variants.{Request, Malformed}
-use Rattle.lines.specs.declared.parse.Setting.{Setting}
-use Rattle.lines.specs.Grammar.{Job, elementLine}
+use Rattle.lines.specs.declared.parse.Header.{Header}
+use Rattle.lines.specs.Grammar.{Job, lineElements}
 use Rattle.lines.specs.declared.parse.Number.{Number}
 use Rattle.lines.specs.declared.parse.Number.the-variants.{Value, Bad}
 
@@ -23,20 +23,20 @@ numberAnswer Bad = none
 
 -- elements that were read stand at the front of a buffer; a line that was refused has none
 abbrev pub Elements : ℕ → ℕ → List ℕ → List ℕ → Number → Type 0
-Elements k most line out (Value n) = (n ≤ length out) × (elementLine k most line ≡ some (take n out))
-Elements k most line out Bad = elementLine k most line ≡ none
+Elements k most line out (Value n) = (n ≤ length out) × (lineElements k most line ≡ some (take n out))
+Elements k most line out Bad = lineElements k most line ≡ none
 
 abbrev pub orderAnswer : Order → Option BitOrder
 orderAnswer (Named o) = some o
 orderAnswer Unknown = none
 
-abbrev pub settingAnswer : First → Option Setting
-settingAnswer (Line s) = some s
-settingAnswer Refused = none
+abbrev pub headerAnswer : First → Option Header
+headerAnswer (Line s) = some s
+headerAnswer Refused = none
 
--- what was asked for: the setting, the length of the read buffer, and the elements at the fronts of two buffers
+-- what was asked for: the header, the length of the read buffer, and the elements at the fronts of two buffers
 abbrev pub Answers : Option Job → List ℕ → List ℕ → Parsed → Type 0
 Answers o write script (Request q) =
     (q .writes ≤ length write) × (q .reads ≤ 512) × (q .answers ≤ length script)
-    × (o ≡ some (record { setting = q .setting; write = take (q .writes) write; read = q .reads; script = take (q .answers) script }))
+    × (o ≡ some (record { header = q .header; write = take (q .writes) write; read = q .reads; script = take (q .answers) script }))
 Answers o write script Malformed = o ≡ none

@@ -4,9 +4,9 @@ ghost use mathlib.Core.List.{[], _∷_};
 ghost use mathlib.Core.Path.{_≡_};
 ghost use lib.Dec.{leb};
 ghost use lib.ListN.{length, drop};
-ghost use Rattle.lines.specs.Text.{space, split, bind, only, same as sameOf, digit as digitOf, digitIn, upTo, numberOf};
-ghost use Rattle.lines.specs.Grammar.{small, count as countOf, element, widthOf, orderOf, setting as settingOf, askedWith, asked as askedOf, job};
-ghost use Rattle.lines.specs.Parse.{numberAnswer, orderAnswer, settingAnswer, Elements, Answers};
+ghost use Rattle.lines.specs.Text.{space, split, bind, only, same as sameOf, digit as digitOf, digitIn, upTo, numeral};
+ghost use Rattle.lines.specs.Grammar.{small, count as countOf, element, widthOf, orderOf, header as headerOf, askedWith, asked as askedOf, job};
+ghost use Rattle.lines.specs.Parse.{numberAnswer, orderAnswer, headerAnswer, Elements, Answers};
 use words::order::BitOrder;
 
 pub(crate) enum Number {
@@ -20,20 +20,20 @@ pub(crate) enum Order {
 }
 
 // What the first line says.
-pub struct Setting {
+pub struct Header {
     pub width: usize,
     pub order: BitOrder,
     pub budget: usize,
 }
 
 pub(crate) enum First {
-    Line(Setting),
+    Line(Header),
     Refused,
 }
 
 // What the four lines ask for; the elements stand in buffers.
 pub struct Asked {
-    pub setting: Setting,
+    pub header: Header,
     pub writes: usize,
     pub reads: usize,
     pub answers: usize,
@@ -100,7 +100,7 @@ fn up_to(text: &[u8], from: usize, separator: u8) -> usize
 // A number of digits, if it is below 2^32.
 fn read_number(base: u32, field: &[u8]) -> Number
     requires { ⌜ (0 < base) × (base ≤ 16) ⌝ }
-    ensures { λ r. ⌜ numberAnswer r ≡ bind (numberOf base (now (field .entry))) small ⌝ }
+    ensures { λ r. ⌜ numberAnswer r ≡ bind (numeral base (now (field .entry))) small ⌝ }
 {
     if field.len() == 0 {
         return Number::Bad;
@@ -228,8 +228,8 @@ fn read_order(field: &[u8]) -> Order
 }
 
 // The three fields of the first line.
-fn read_setting(width: &[u8], order: &[u8], budget: &[u8]) -> First
-    ensures { λ r. ⌜ settingAnswer r ≡ settingOf (now (width .entry) ∷ now (order .entry) ∷ now (budget .entry) ∷ []) ⌝ }
+fn read_header(width: &[u8], order: &[u8], budget: &[u8]) -> First
+    ensures { λ r. ⌜ headerAnswer r ≡ headerOf (now (width .entry) ∷ now (order .entry) ∷ now (budget .entry) ∷ []) ⌝ }
 {
     match read_width(width) {
         Number::Bad => First::Refused,
@@ -237,7 +237,7 @@ fn read_setting(width: &[u8], order: &[u8], budget: &[u8]) -> First
             Order::Unknown => First::Refused,
             Order::Named(o) => match read_number(10, budget) {
                 Number::Bad => First::Refused,
-                Number::Value(n) => First::Line(Setting {
+                Number::Value(n) => First::Line(Header {
                     width: k as usize,
                     order: o,
                     budget: n as usize,
@@ -249,7 +249,7 @@ fn read_setting(width: &[u8], order: &[u8], budget: &[u8]) -> First
 
 // The first line.
 fn read_first(line: &[u8]) -> First
-    ensures { λ r. ⌜ settingAnswer r ≡ settingOf (split space (now (line .entry))) ⌝ }
+    ensures { λ r. ⌜ headerAnswer r ≡ headerOf (split space (now (line .entry))) ⌝ }
 {
     let a = up_to(line, 0, 32);
     if line.len() <= a {
@@ -263,29 +263,29 @@ fn read_first(line: &[u8]) -> First
     if end < line.len() {
         return First::Refused;
     }
-    read_setting(&line[..a], &line[a + 1..b], &line[b + 1..end])
+    read_header(&line[..a], &line[a + 1..b], &line[b + 1..end])
 }
 
 // The lines after the first.
 fn read_rest(
-    setting: Setting,
+    header: Header,
     write: &[u8],
     read: &[u8],
     script: &[u8],
     written: &mut [u32],
     answers: &mut [u32],
 ) -> Parsed
-    requires { ⌜ (setting .width ≤ 32) × (512 ≤ length (now written)) × (8000 ≤ length (now answers)) ⌝ }
-    ensures { λ r. ⌜ Answers (askedWith setting (now (write .entry)) (now (read .entry)) (now (script .entry))) (now (written .exit)) (now (answers .exit)) r ⌝ }
+    requires { ⌜ (header .width ≤ 32) × (512 ≤ length (now written)) × (8000 ≤ length (now answers)) ⌝ }
+    ensures { λ r. ⌜ Answers (askedWith header (now (write .entry)) (now (read .entry)) (now (script .entry))) (now (written .exit)) (now (answers .exit)) r ⌝ }
 {
-    match read_elements(setting.width, 512, write, written) {
+    match read_elements(header.width, 512, write, written) {
         Number::Bad => Parsed::Malformed,
         Number::Value(w) => match read_count(read, 512) {
             Number::Bad => Parsed::Malformed,
             Number::Value(n) => match read_elements(32, 8000, script, answers) {
                 Number::Bad => Parsed::Malformed,
                 Number::Value(v) => Parsed::Request(Asked {
-                    setting,
+                    header,
                     writes: w as usize,
                     reads: n as usize,
                     answers: v as usize,

@@ -5,7 +5,7 @@ use mathlib.Core.Path.{_≡_, sym, _∙_}
 use native.Mathlib.Omega.{arith}
 use borrow.Author.Tests.{le-leb, lt-leb}
 use lib.ListN.{length}
-use Rattle.lines.proofs.TextLaws.{numberOf-fits}
+use Rattle.lines.proofs.TextLaws.{numeral-fits}
 use borrow.Author.Needs.{needs}
 use Rattle.lines.proofs.parse.read_element.Statement.{statement}
 use Rattle.lines.proofs.parse.read_element.Tie as tie
@@ -19,7 +19,7 @@ read-number-requires c κs = search needs
 returns-2 : tie.Need-returns-2
 returns-2 c =
     let a = c .before .before .before .args in
-    c .read-number .ensures ∙ numberOf-fits (a .field .now) (omega arith) ∙ sym (rw (le-leb (length (a .field .now)) (a .k / 4) (c .before .if1 .left)))
+    c .read-number .ensures ∙ numeral-fits (a .field .now) (omega arith) ∙ sym (rw (le-leb (length (a .field .now)) (a .k / 4) (c .before .if1 .left)))
 
 pub read-element-spec : {M : Type 1} → statement M
 read-element-spec = tie.close (tie.spec returns read-number-requires returns-2)

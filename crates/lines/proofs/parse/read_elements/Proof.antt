@@ -10,7 +10,7 @@ use borrow.Author.Tests.{lt-ltb, le-ltb}
 use lib.ListN.{length, take, drop, set, length-set, length-append}
 use lib.Seq.{take-suc-set, length-take-le}
 use Rattle.lines.specs.Text.{space, split}
-use Rattle.lines.specs.Grammar.{element, elementLine}
+use Rattle.lines.specs.Grammar.{element, lineElements}
 use Rattle.lines.specs.Parse.{numberAnswer}
 use Rattle.lines.proofs.TextLaws.{nonzero, before-end}
 use Rattle.lines.proofs.ElementLaws.{later, fields, togo, togo-start, togo-bad, togo-more, togo-over, togo-end, empty-line}
@@ -19,7 +19,7 @@ use Rattle.lines.proofs.parse.read_elements.Statement.{statement}
 use Rattle.lines.proofs.parse.read_elements.Tie as tie
 
 abbrev Inv-loop : tie.InvT-loop
-Inv-loop k most line out₀ from₀ n₀ out from n = (from ≤ length line) × (n ≤ most) × (length out ≡ length out₀) × (togo k most (take n out) (split space (drop from line)) ≡ elementLine k most line)
+Inv-loop k most line out₀ from₀ n₀ out from n = (from ≤ length line) × (n ≤ most) × (length out ≡ length out₀) × (togo k most (take n out) (split space (drop from line)) ≡ lineElements k most line)
 
 abbrev μ-loop : tie.MeasureT-loop
 μ-loop k most line out₀ from₀ n₀ out from n = length line - from

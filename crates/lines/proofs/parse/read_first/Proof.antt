@@ -6,7 +6,7 @@ use mathlib.Core.Path.{_≡_, sym, ap, _∙_}
 use lib.ListN.{take, drop}
 use lib.Seq.{length-take-le}
 use Rattle.lines.specs.Text.{space, split}
-use Rattle.lines.specs.Grammar.{setting}
+use Rattle.lines.specs.Grammar.{header}
 use Rattle.lines.proofs.ElementLaws.{later, first-part, next-part, no-part, four-fields}
 use borrow.Author.Needs.{needs}
 use Rattle.lines.proofs.parse.read_first.Statement.{statement}
@@ -21,7 +21,7 @@ returns c =
     let u₁ = c .before .up-to in
     let p₁ = first-part space line (u₁ .result) (u₁ .ensures .0) (u₁ .ensures .1) in
     let w = take (u₁ .result) line in
-    sym (ap setting (p₁ ∙ ap (λ (ps : List (List ℕ)). w ∷ ps) (no-part space line (u₁ .result) (c .if1 .taken))))
+    sym (ap header (p₁ ∙ ap (λ (ps : List (List ℕ)). w ∷ ps) (no-part space line (u₁ .result) (c .if1 .taken))))
 
 add-up-to : tie.Need-add-up-to
 add-up-to c = search needs
@@ -38,7 +38,7 @@ returns-2 c =
     let u₂ = c .before .up-to2 in
     let p₂ = next-part space line (u₁ .result) (u₂ .result) (c .before .before .if1 .left) (u₂ .ensures .0) (u₂ .ensures .1) in
     let o = take (u₂ .result - (u₁ .result + 1)) (drop (u₁ .result + 1) line) in
-    sym (ap setting (p₁ ∙ ap (λ (ps : List (List ℕ)). w ∷ ps) (p₂ ∙ ap (λ (ps : List (List ℕ)). o ∷ ps) (no-part space line (u₂ .result) (c .if2 .taken)))))
+    sym (ap header (p₁ ∙ ap (λ (ps : List (List ℕ)). w ∷ ps) (p₂ ∙ ap (λ (ps : List (List ℕ)). o ∷ ps) (no-part space line (u₂ .result) (c .if2 .taken)))))
 
 add-up-to-2 : tie.Need-add-up-to-2
 add-up-to-2 c = search needs
@@ -60,37 +60,37 @@ returns-3 c =
     let n = take (u₃ .result - (u₂ .result + 1)) (drop (u₂ .result + 1) line) in
     let parts : split space line ≡ w ∷ o ∷ n ∷ later space line (u₃ .result) =
     p₁ ∙ ap (λ (ps : List (List ℕ)). w ∷ ps) (p₂ ∙ ap (λ (ps : List (List ℕ)). o ∷ ps) p₃) in
-    sym (ap setting parts ∙ four-fields w o n space line (u₃ .result) (c .if3 .taken))
+    sym (ap header parts ∙ four-fields w o n space line (u₃ .result) (c .if3 .taken))
 
-slice-aggregate-read-setting : tie.Need-slice-aggregate-read-setting
-slice-aggregate-read-setting c = sym (length-take-le _ _ (search needs))
+slice-aggregate-read-header : tie.Need-slice-aggregate-read-header
+slice-aggregate-read-header c = sym (length-take-le _ _ (search needs))
 
-add-read-setting : tie.Need-add-read-setting
-add-read-setting c = search needs
+add-read-header : tie.Need-add-read-header
+add-read-header c = search needs
 
-sub-read-setting : tie.Need-sub-read-setting
-sub-read-setting c = search needs
+sub-read-header : tie.Need-sub-read-header
+sub-read-header c = search needs
 
-part-read-setting-start : tie.Need-part-read-setting-start
-part-read-setting-start c = search needs
+part-read-header-start : tie.Need-part-read-header-start
+part-read-header-start c = search needs
 
-part-read-setting-end : tie.Need-part-read-setting-end
-part-read-setting-end c = search needs
+part-read-header-end : tie.Need-part-read-header-end
+part-read-header-end c = search needs
 
-add-read-setting-2 : tie.Need-add-read-setting-2
-add-read-setting-2 c = search needs
+add-read-header-2 : tie.Need-add-read-header-2
+add-read-header-2 c = search needs
 
-sub-read-setting-2 : tie.Need-sub-read-setting-2
-sub-read-setting-2 c = search needs
+sub-read-header-2 : tie.Need-sub-read-header-2
+sub-read-header-2 c = search needs
 
-part-read-setting-start-2 : tie.Need-part-read-setting-start-2
-part-read-setting-start-2 c = search needs
+part-read-header-start-2 : tie.Need-part-read-header-start-2
+part-read-header-start-2 c = search needs
 
-part-read-setting-end-2 : tie.Need-part-read-setting-end-2
-part-read-setting-end-2 c = search needs
+part-read-header-end-2 : tie.Need-part-read-header-end-2
+part-read-header-end-2 c = search needs
 
-read-setting-requires : tie.Need-read-setting-requires
-read-setting-requires c κs = search needs
+read-header-requires : tie.Need-read-header-requires
+read-header-requires c κs = search needs
 
 returns-4 : tie.Need-returns-4
 returns-4 c =
@@ -106,7 +106,7 @@ returns-4 c =
     let n = take (u₃ .result - (u₂ .result + 1)) (drop (u₂ .result + 1) line) in
     let parts : split space line ≡ w ∷ o ∷ n ∷ later space line (u₃ .result) =
     p₁ ∙ ap (λ (ps : List (List ℕ)). w ∷ ps) (p₂ ∙ ap (λ (ps : List (List ℕ)). o ∷ ps) p₃) in
-    c .read-setting .ensures ∙ sym (ap setting (parts ∙ ap (λ (ps : List (List ℕ)). w ∷ o ∷ n ∷ ps) (no-part space line (u₃ .result) (c .before .before .before .before .if3 .left))))
+    c .read-header .ensures ∙ sym (ap header (parts ∙ ap (λ (ps : List (List ℕ)). w ∷ o ∷ n ∷ ps) (no-part space line (u₃ .result) (c .before .before .before .before .if3 .left))))
 
 pub read-first-spec : {M : Type 1} → statement M
 read-first-spec =
@@ -120,14 +120,14 @@ read-first-spec =
     add-up-to-2
     up-to-requires-3
     returns-3
-    slice-aggregate-read-setting
-    add-read-setting
-    sub-read-setting
-    part-read-setting-start
-    part-read-setting-end
-    add-read-setting-2
-    sub-read-setting-2
-    part-read-setting-start-2
-    part-read-setting-end-2
-    read-setting-requires
+    slice-aggregate-read-header
+    add-read-header
+    sub-read-header
+    part-read-header-start
+    part-read-header-end
+    add-read-header-2
+    sub-read-header-2
+    part-read-header-start-2
+    part-read-header-end-2
+    read-header-requires
     returns-4)

@@ -4,8 +4,8 @@ use mathlib.Core.Path.{_≡_, sym, ap, _∙_}
 use native.Mathlib.Omega.{arith}
 use Rattle.lines.specs.Text.{space, split}
 use Rattle.lines.specs.Grammar.{asked, askedWith}
-use Rattle.lines.specs.Parse.{settingAnswer}
-use Rattle.lines.proofs.ElementLaws.{setting-small, as-answers}
+use Rattle.lines.specs.Parse.{headerAnswer}
+use Rattle.lines.proofs.ElementLaws.{header-small, as-answers}
 use borrow.Author.Needs.{needs}
 use Rattle.lines.proofs.parse.read_lines.Statement.{statement}
 use Rattle.lines.proofs.parse.read_lines.Tie as tie
@@ -22,11 +22,11 @@ enum-known-s c = search needs
 read-rest-requires : tie.Need-read-rest-requires
 read-rest-requires c κs =
     let a = c .before .before .before .before .before .before .before .before .before .before .before .before .args in
-    let e = sym (c .before .before .before .before .before .read-first .ensures) ∙ ap settingAnswer (c .before .before .before .s .given .1) in
-    (setting-small (split space (a .first .now)) (c .before .before .before .s .given .0 .0) e, omega (arith, c .before .before .before .before .before .before .before .before .before .before .before .before .pre .0), omega (arith, c .before .before .before .before .before .before .before .before .before .before .before .before .pre .1))
+    let e = sym (c .before .before .before .before .before .read-first .ensures) ∙ ap headerAnswer (c .before .before .before .s .given .1) in
+    (header-small (split space (a .first .now)) (c .before .before .before .s .given .0 .0) e, omega (arith, c .before .before .before .before .before .before .before .before .before .before .before .before .pre .0), omega (arith, c .before .before .before .before .before .before .before .before .before .before .before .before .pre .1))
 
 returns : tie.Need-returns
-returns c = rw (sym (c .before .before .read-first .ensures) ∙ ap settingAnswer (c .enum-told .given .1))
+returns c = rw (sym (c .before .before .read-first .ensures) ∙ ap headerAnswer (c .enum-told .given .1))
 
 same-length : tie.Need-same-length
 same-length c = search needs
@@ -39,7 +39,7 @@ returns-2 c =
     let a = c .before .before .before .before .before .before .before .before .before .before .before .before .before .before .before .before .before .args in
     let r = c .before .before .before .before .read-rest in
     let s = c .before .before .before .before .before .before .before .before .s .given .0 .0 in
-    let e = sym (c .before .before .before .before .before .before .before .before .before .before .read-first .ensures) ∙ ap settingAnswer (c .before .before .before .before .before .before .before .before .s .given .1) in
+    let e = sym (c .before .before .before .before .before .before .before .before .before .before .read-first .ensures) ∙ ap headerAnswer (c .before .before .before .before .before .before .before .before .s .given .1) in
     let same : askedWith s (a .write .now) (a .read .now) (a .script .now) ≡ asked (a .first .now) (a .write .now) (a .read .now) (a .script .now) = rw e in
     as-answers (askedWith s (a .write .now) (a .read .now) (a .script .now)) (asked (a .first .now) (a .write .now) (a .read .now) (a .script .now)) (r .last .1 .1 .1 .1 .0) (r .last .1 .1 .1 .1 .1 .0) (r .result) same (r .ensures)
 

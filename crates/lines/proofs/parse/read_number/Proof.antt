@@ -7,27 +7,27 @@ use native.Mathlib.Nat.{mul-le-mul-left}
 use native.Mathlib.Omega.{arith}
 use borrow.Author.Tests.{lt-ltb}
 use lib.ListN.{length, drop, getD}
-use Rattle.lines.specs.Text.{bind, number, numberOf}
+use Rattle.lines.specs.Text.{bind, numeralFrom, numeral}
 use Rattle.lines.specs.Grammar.{small}
 use Rattle.lines.specs.Parse.{numberAnswer}
-use Rattle.lines.proofs.TextLaws.{nonzero, number-more, number-bad, number-end, number-large, numberOf-begins, numberOf-nothing}
+use Rattle.lines.proofs.TextLaws.{nonzero, number-more, number-bad, number-end, number-large, numeral-begins, numeral-nothing}
 use borrow.Author.Needs.{needs}
 use Rattle.lines.proofs.parse.read_number.Statement.{statement}
 use Rattle.lines.proofs.parse.read_number.Tie as tie
 
 abbrev Inv-loop : tie.InvT-loop
-Inv-loop base field n₀ i₀ i-end n i = (i ≤ i-end) × (n < 2 ^ 32) × (bind (number base n (drop i field)) small ≡ bind (numberOf base field) small)
+Inv-loop base field n₀ i₀ i-end n i = (i ≤ i-end) × (n < 2 ^ 32) × (bind (numeralFrom base n (drop i field)) small ≡ bind (numeral base field) small)
 
 abbrev μ-loop : tie.MeasureT-loop
 μ-loop base field n₀ i₀ i-end n i = i-end - i
 
 returns : tie.Need-returns Inv-loop μ-loop
-returns c = let a = c .before .before .args in rw (numberOf-nothing (a .base) (a .field .now) (c .if1 .taken))
+returns c = let a = c .before .before .args in rw (numeral-nothing (a .base) (a .field .now) (c .if1 .taken))
 
 loop-holds : tie.Need-loop-holds Inv-loop μ-loop
 loop-holds c =
     let a = c .before .before .args in
-    (omega arith, omega arith, ap (λ (o : Option ℕ). bind o small) (sym (numberOf-begins (a .base) (a .field .now) (omega (arith, nonzero (length (a .field .now)) (c .if1 .left))))))
+    (omega arith, omega arith, ap (λ (o : Option ℕ). bind o small) (sym (numeral-begins (a .base) (a .field .now) (omega (arith, nonzero (length (a .field .now)) (c .if1 .left))))))
 
 shared-slice-read-digit-in : tie.Need-shared-slice-read-digit-in Inv-loop μ-loop
 shared-slice-read-digit-in c = search needs

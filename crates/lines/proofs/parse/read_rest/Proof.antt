@@ -56,7 +56,7 @@ same-length c = search needs
 returns : tie.Need-returns
 returns c =
     let a = c .before .before .before .before .before .before .before .before .before .before .before .args in
-    let w = as-elements (a .setting .width) 512 (a .write .now) (c .before .before .before .before .read-elements .last .1 .1 .1 .0) (c .before .before .before .before .read-elements .result) Bad (c .enum-told .given .1) (c .before .before .before .before .read-elements .ensures) in
+    let w = as-elements (a .header .width) 512 (a .write .now) (c .before .before .before .before .read-elements .last .1 .1 .1 .0) (c .before .before .before .before .read-elements .result) Bad (c .enum-told .given .1) (c .before .before .before .before .read-elements .ensures) in
     rw w
 
 same-length-2 : tie.Need-same-length-2
@@ -65,7 +65,7 @@ same-length-2 c = search needs
 returns-2 : tie.Need-returns-2
 returns-2 c =
     let a = c .before .before .before .before .before .before .before .before .before .before .before .before .before .before .before .args in
-    let w = as-elements (a .setting .width) 512 (a .write .now) (c .before .before .before .before .before .before .before .before .read-elements .last .1 .1 .1 .0) (c .before .before .before .before .before .before .before .before .read-elements .result) (Value (c .before .before .before .before .w .given .0 .0)) (c .before .before .before .before .w .given .1) (c .before .before .before .before .before .before .before .before .read-elements .ensures) in
+    let w = as-elements (a .header .width) 512 (a .write .now) (c .before .before .before .before .before .before .before .before .read-elements .last .1 .1 .1 .0) (c .before .before .before .before .before .before .before .before .read-elements .result) (Value (c .before .before .before .before .w .given .0 .0)) (c .before .before .before .before .w .given .1) (c .before .before .before .before .before .before .before .before .read-elements .ensures) in
     let n = sym (c .before .before .read-count .ensures) ∙ ap numberAnswer (c .enum-told2 .given .1) in
     rw (w .1, n)
 
@@ -78,7 +78,7 @@ same-length-4 c = search needs
 returns-3 : tie.Need-returns-3
 returns-3 c =
     let a = c .before .before .before .before .before .before .before .before .before .before .before .before .before .before .before .before .before .before .before .before .before .before .args in
-    let w = as-elements (a .setting .width) 512 (a .write .now) (c .before .before .before .before .before .before .before .before .before .before .before .before .before .before .before .read-elements .last .1 .1 .1 .0) (c .before .before .before .before .before .before .before .before .before .before .before .before .before .before .before .read-elements .result) (Value (c .before .before .before .before .before .before .before .before .before .before .before .w .given .0 .0)) (c .before .before .before .before .before .before .before .before .before .before .before .w .given .1) (c .before .before .before .before .before .before .before .before .before .before .before .before .before .before .before .read-elements .ensures) in
+    let w = as-elements (a .header .width) 512 (a .write .now) (c .before .before .before .before .before .before .before .before .before .before .before .before .before .before .before .read-elements .last .1 .1 .1 .0) (c .before .before .before .before .before .before .before .before .before .before .before .before .before .before .before .read-elements .result) (Value (c .before .before .before .before .before .before .before .before .before .before .before .w .given .0 .0)) (c .before .before .before .before .before .before .before .before .before .before .before .w .given .1) (c .before .before .before .before .before .before .before .before .before .before .before .before .before .before .before .read-elements .ensures) in
     let n = sym (c .before .before .before .before .before .before .before .before .before .read-count .ensures) ∙ ap numberAnswer (c .before .before .before .before .before .before .before .n .given .1) in
     let v = as-elements 32 8000 (a .script .now) (c .before .before .before .before .read-elements2 .last .1 .1 .1 .0) (c .before .before .before .before .read-elements2 .result) Bad (c .enum-told3 .given .1) (c .before .before .before .before .read-elements2 .ensures) in
     rw (w .1, n, v)
@@ -92,7 +92,7 @@ same-length-6 c = search needs
 returns-4 : tie.Need-returns-4
 returns-4 c =
     let a = c .before .before .before .before .before .before .before .before .before .before .before .before .before .before .before .before .before .before .before .before .before .before .before .args in
-    let w = as-elements (a .setting .width) 512 (a .write .now) (c .before .before .before .before .before .before .before .before .before .before .before .before .before .before .before .before .read-elements .last .1 .1 .1 .0) (c .before .before .before .before .before .before .before .before .before .before .before .before .before .before .before .before .read-elements .result) (Value (c .before .before .before .before .before .before .before .before .before .before .before .before .w .given .0 .0)) (c .before .before .before .before .before .before .before .before .before .before .before .before .w .given .1) (c .before .before .before .before .before .before .before .before .before .before .before .before .before .before .before .before .read-elements .ensures) in
+    let w = as-elements (a .header .width) 512 (a .write .now) (c .before .before .before .before .before .before .before .before .before .before .before .before .before .before .before .before .read-elements .last .1 .1 .1 .0) (c .before .before .before .before .before .before .before .before .before .before .before .before .before .before .before .before .read-elements .result) (Value (c .before .before .before .before .before .before .before .before .before .before .before .before .w .given .0 .0)) (c .before .before .before .before .before .before .before .before .before .before .before .before .w .given .1) (c .before .before .before .before .before .before .before .before .before .before .before .before .before .before .before .before .read-elements .ensures) in
     let n = sym (c .before .before .before .before .before .before .before .before .before .before .read-count .ensures) ∙ ap numberAnswer (c .before .before .before .before .before .before .before .before .n .given .1) in
     let v = as-elements 32 8000 (a .script .now) (c .before .before .before .before .before .read-elements2 .last .1 .1 .1 .0) (c .before .before .before .before .before .read-elements2 .result) (Value (c .before .v .given .0 .0)) (c .before .v .given .1) (c .before .before .before .before .before .read-elements2 .ensures) in
     (w .0, at-most 512 (c .before .before .before .before .before .before .before .before .n .given .0 .0) (count (a .read .now)) n, v .0, rw (w .1, n, v .1))

@@ -1,10 +1,10 @@
--- `read_setting` meets its contract.
+-- `read_header` meets its contract.
 -- Assumes nothing.
 use mathlib.Core.Path.{sym, ap, _∙_}
 use Rattle.lines.specs.Parse.{numberAnswer, orderAnswer}
 use borrow.Author.Needs.{needs}
-use Rattle.lines.proofs.parse.read_setting.Statement.{statement}
-use Rattle.lines.proofs.parse.read_setting.Tie as tie
+use Rattle.lines.proofs.parse.read_header.Statement.{statement}
+use Rattle.lines.proofs.parse.read_header.Tie as tie
 
 read-width-requires : tie.Need-read-width-requires
 read-width-requires c κs = search needs
@@ -51,8 +51,8 @@ returns-3 c = rw (sym (c .before .before .before .before .before .before .before
 returns-4 : tie.Need-returns-4
 returns-4 c = rw (sym (c .before .before .before .before .before .before .before .before .before .before .before .read-width .ensures) ∙ ap numberAnswer (c .before .before .before .before .before .before .before .before .before .k .given .1), sym (c .before .before .before .before .before .before .before .read-order .ensures) ∙ ap orderAnswer (c .before .before .before .before .before .o .given .1), sym (c .before .before .before .read-number .ensures) ∙ ap numberAnswer (c .before .n .given .1))
 
-pub read-setting-spec : {M : Type 1} → statement M
-read-setting-spec =
+pub read-header-spec : {M : Type 1} → statement M
+read-header-spec =
     tie.close
     (tie.spec
     read-width-requires
