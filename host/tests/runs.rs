@@ -2,7 +2,7 @@
 
 mod common;
 
-use common::run::{self, found};
+use common::run::{self, found, EXAMPLE_LISTING, EXAMPLE_SCRIPT};
 use lpspi_host::{exchange_separate, flush, raw, Driver, Element, Run};
 use std::fmt::Debug;
 
@@ -19,25 +19,11 @@ fn listing(log: &[u32], read: &[u8], run: Run) -> String {
 
 #[test]
 fn the_example() {
-    let script = [0, 0x404, 0, 0, 0x404, 0, 0, 0x404, 0x10000, 0x5A];
+    let script = EXAMPLE_SCRIPT;
     let (mut read, mut log) = ([0u8], found(50));
     let driver = Driver::default();
     let run = exchange_separate(driver, &mut read, &[0xA5], 20, &script, &mut log);
-    let expected = "\
-R 14 00000000
-R 04 00000404
-R 5C 00000000
-W 60 00000007
-R 14 00000000
-R 04 00000404
-R 5C 00000000
-W 64 000000A5
-R 14 00000000
-R 04 00000404
-R 5C 00010000
-R 74 0000005A
-5A
-0 12 10";
+    let expected = format!("{EXAMPLE_LISTING}\n5A\n0 12 10");
     assert_eq!(listing(&log, &read, run), expected);
     assert_eq!(log[24..], found(50)[24..]);
 }

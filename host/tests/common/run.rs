@@ -7,6 +7,22 @@ use std::sync::LazyLock;
 
 pub const MAX_BUDGET: usize = 8_000;
 
+/// The scope document's example, an exchange of A5 with 5A: script and accesses.
+pub const EXAMPLE_SCRIPT: [u32; 10] = [0, 0x404, 0, 0, 0x404, 0, 0, 0x404, 0x10000, 0x5A];
+pub const EXAMPLE_LISTING: &str = "\
+R 14 00000000
+R 04 00000404
+R 5C 00000000
+W 60 00000007
+R 14 00000000
+R 04 00000404
+R 5C 00000000
+W 64 000000A5
+R 14 00000000
+R 04 00000404
+R 5C 00010000
+R 74 0000005A";
+
 /// What a log holds before a run.
 pub fn found(len: usize) -> Vec<u32> {
     static FOUND: LazyLock<Vec<u32>> = LazyLock::new(|| {

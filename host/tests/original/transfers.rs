@@ -1,5 +1,6 @@
 //! Transfers and recoveries of the original.
 
+use crate::common::run::{EXAMPLE_LISTING, EXAMPLE_SCRIPT};
 use crate::{listed, original_is_here, SET};
 use original::{Call, Driver, Element, Transfer, Value};
 
@@ -8,27 +9,13 @@ fn the_example() {
     if !original_is_here() {
         return;
     }
-    let script = [0, 0x404, 0, 0, 0x404, 0, 0, 0x404, 0x10000, 0x5A];
     let mut read = [0];
     let transfer = Transfer::ExchangeSeparate {
         read: &mut read,
         write: &[0xA5],
     };
-    let (outcome, accesses) = listed(u8::call(transfer), Driver::default(), 20, &script);
-    let expected = "\
-R 14 00000000
-R 04 00000404
-R 5C 00000000
-W 60 00000007
-R 14 00000000
-R 04 00000404
-R 5C 00000000
-W 64 000000A5
-R 14 00000000
-R 04 00000404
-R 5C 00010000
-R 74 0000005A";
-    assert_eq!(accesses.join("\n"), expected);
+    let (outcome, accesses) = listed(u8::call(transfer), Driver::default(), 20, &EXAMPLE_SCRIPT);
+    assert_eq!(accesses.join("\n"), EXAMPLE_LISTING);
     assert_eq!(read, [0x5A]);
     let numbers = (outcome.number(), outcome.accesses, outcome.answers);
     assert_eq!(numbers, (Some(0), 12, 10));
