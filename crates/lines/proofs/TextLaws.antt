@@ -3,9 +3,9 @@
 use Prim.Native.Nat.{ℕ, zero, suc, _+_, _*_, _^_, _<_, _≤_}
 use mathlib.Core.Bool.{Bool, true, false, _&&_}
 use mathlib.Core.List.{List, [], _∷_}
-use mathlib.Core.Path.{_≡_, refl, ap, ap₂, _∙_}
-use mathlib.Core.Option.{Option, none, some}
-use native.Mathlib.Nat.{mul-le-mul-left, mul-one, pow-suc, pow-le-pow-right}
+use mathlib.Core.Path.{_≡_, refl, ap, ap₂, _∙_, subst}
+use mathlib.Core.Option.{Option, none, some, Option·some-injective, Option·none-ne-some}
+use native.Mathlib.Nat.{add-zero, mul-le-mul-left, mul-one, pow-suc, pow-le-pow-right}
 use native.Mathlib.Omega.{arith}
 use borrow.Author.Tests.{eq-eqb, ne-eqb, lt-ltb, le-ltb, ltb-true, ltb-false}
 use lib.Dec.{eqb, ltb}
@@ -73,26 +73,35 @@ number-large base n (x ∷ xs) h l = by-digit (digitIn base x) (λ d. number-lar
     by-digit none f = refl
     by-digit (some d) f = f d
 
--- so many hexadecimal digits fit 32 bits
-below : (j : ℕ) → j ≤ 8 → 16 ^ j ≤ 2 ^ 32
-below j h = pow-le-pow-right {n = 16} (omega arith) {i = j} {j = 8} h
-
-number-fits : (n j : ℕ) (xs : List ℕ) → n < 16 ^ j → j + length xs ≤ 8 → bind (numeralFrom 16 n xs) small ≡ numeralFrom 16 n xs
-number-fits n j [] l h = rw (lt-ltb n (2 ^ 32) (omega (arith, below j (omega arith))))
-number-fits n j (x ∷ xs) l h = by-digit (digit x) (λ d e. number-fits (n * 16 + d) (suc j) xs (omega (arith, pow-suc 16 j)) (omega arith))
+-- a number of hexadecimal digits
+number-below : (n j x : ℕ) (xs : List ℕ) → n < 16 ^ j → numeralFrom 16 n xs ≡ some x → x < 16 ^ (j + length xs)
+number-below n j x [] l e = rw add-zero (subst (λ (y : ℕ). y < 16 ^ j) (Option·some-injective n x e) l)
+number-below n j x (b ∷ bs) l e = by-digit (digit b) (λ d h q.
+    let m : suc j + length bs ≡ j + suc (length bs) = omega arith in
+    subst (λ (i : ℕ). x < 16 ^ i) m (number-below (n * 16 + d) (suc j) x bs (omega (arith, pow-suc 16 j)) q)) e
   where
-    by-digit : (o : Option ℕ) → ((d : ℕ) → d < 16 → bind (numeralFrom 16 (n * 16 + d) xs) small ≡ numeralFrom 16 (n * 16 + d) xs)
-        → bind (bind (bind o (λ d. only (ltb d 16) d)) (λ d. numeralFrom 16 (n * 16 + d) xs)) small ≡ bind (bind o (λ d. only (ltb d 16) d)) (λ d. numeralFrom 16 (n * 16 + d) xs)
-    by-digit none f = refl
-    by-digit (some d) f = by-test (ltb d 16) refl
+    by-digit : (o : Option ℕ) → ((d : ℕ) → d < 16 → numeralFrom 16 (n * 16 + d) bs ≡ some x → x < 16 ^ (j + suc (length bs)))
+        → bind (bind o (λ d. only (ltb d 16) d)) (λ d. numeralFrom 16 (n * 16 + d) bs) ≡ some x → x < 16 ^ (j + suc (length bs))
+    by-digit none f q = absurd (Option·none-ne-some x q)
+    by-digit (some d) f q = by-test (ltb d 16) refl q
       where
-        by-test : (t : Bool) → ltb d 16 ≡ t → bind (bind (only t d) (λ d. numeralFrom 16 (n * 16 + d) xs)) small ≡ bind (only t d) (λ d. numeralFrom 16 (n * 16 + d) xs)
-        by-test true e = f d (ltb-true d 16 e)
-        by-test false e = refl
+        by-test : (t : Bool) → ltb d 16 ≡ t → bind (only t d) (λ d. numeralFrom 16 (n * 16 + d) bs) ≡ some x → x < 16 ^ (j + suc (length bs))
+        by-test true t q = f d (ltb-true d 16 t) q
+        by-test false t q = absurd (Option·none-ne-some x q)
 
+pub numeral-below : (m x : ℕ) (xs : List ℕ) → length xs ≤ m → numeral 16 xs ≡ some x → x < 16 ^ m
+numeral-below m x [] h e = absurd (Option·none-ne-some x e)
+numeral-below m x (b ∷ bs) h e =
+    let l : x < 16 ^ (0 + length (b ∷ bs)) = number-below 0 0 x (b ∷ bs) (omega arith) e in
+    omega (arith, l, pow-le-pow-right {n = 16} (omega arith) {i = 0 + length (b ∷ bs)} {j = m} (omega arith))
+
+-- at most eight fit 32 bits
 pub numeral-fits : (xs : List ℕ) → length xs ≤ 8 → bind (numeral 16 xs) small ≡ numeral 16 xs
-numeral-fits [] h = refl
-numeral-fits (x ∷ xs) h = number-fits 0 0 (x ∷ xs) (omega arith) (omega arith)
+numeral-fits xs h = by-value (numeral 16 xs) refl
+  where
+    by-value : (o : Option ℕ) → numeral 16 xs ≡ o → bind o small ≡ o
+    by-value none e = refl
+    by-value (some x) e = rw (lt-ltb x (2 ^ 32) (numeral-below 8 x xs h e))
 
 pub numeral-begins : (base : ℕ) (xs : List ℕ) → 0 < length xs → numeral base xs ≡ numeralFrom base 0 xs
 numeral-begins base [] h = absurd (omega arith)

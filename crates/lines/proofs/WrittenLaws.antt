@@ -5,7 +5,8 @@ use mathlib.Core.List.{List, [], _∷_, _++_}
 use mathlib.Core.Path.{_≡_, refl, sym, ap, _∙_}
 use native.Mathlib.Numerals.{add-one}
 use native.Mathlib.Omega.{arith}
-use lib.ListN.{length, take, set, length-append}
+use lib.ListN.{length, getD, take, set, length-append}
+use lib.Seq.{take-suc, take-suc-set}
 use Rattle.words.proofs.BufferLaws.{length-laid}
 use Rattle.lines.specs.Text.{glyph, digits, written}
 
@@ -75,3 +76,9 @@ digits-stored out at base l n g h r e =
     written-last out at (at + (l - 1)) g others (omega (arith, m)) (omega arith)
     ∙ ap (λ (x : ℕ). written out at (others ++ (x ∷ []))) e
     ∙ ap (written out at) (sym (digits-step base l n h))
+
+-- ONE MORE ELEMENT COPIED
+pub copied-more : (from to : List ℕ) (i : ℕ) → i < length from → length from ≡ length to → take i to ≡ take i from
+    → take (i + 1) (set to i (getD from i 0)) ≡ take (i + 1) from
+copied-more from to i h l e =
+    rw (add-one i) (take-suc-set to i (getD from i 0) (omega arith) ∙ ap (λ (xs : List ℕ). xs ++ (getD from i 0 ∷ [])) e ∙ sym (take-suc from i 0 h))

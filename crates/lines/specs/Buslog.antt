@@ -1,9 +1,13 @@
 -- `buslog` (document 01): a separate exchange from four lines, as text.
 -- Assumes nothing.
-use Prim.Native.Nat.{ℕ, zero, suc, _*_, min}
-use mathlib.Core.List.{List, [], _∷_, _++_}
+use Prim.Native.Nat.{ℕ, _*_, _≤_, min}
+use mathlib.Core.Bool.{cond}
+use mathlib.Core.List.{List, _++_}
 use mathlib.Core.Option.{Option, none, some}
-use lib.ListN.{take}
+use mathlib.Core.Path.{_≡_}
+use lib.Dec.{leb}
+use lib.ListN.{length, take, replicate}
+use Rattle.words.specs.Word.{laid}
 use Rattle.machine.specs.Driver.{startDriver, withOrder}
 use Rattle.transfers.specs.Transfers.{TransferLeft, exchangeSeparate}
 use Rattle.lines.specs.Text.{bytes}
@@ -11,8 +15,7 @@ use Rattle.lines.specs.Grammar.{Job, job}
 use Rattle.lines.specs.Listing.{accessLines, elementLines, resultLine}
 
 abbrev pub zeros : ℕ → List ℕ
-zeros zero = []
-zeros (suc n) = 0 ∷ zeros n
+zeros n = replicate n 0
 
 -- mode 0, PCS 0; the read buffer starts as zeros; the log has just the places of the budget, and of 8,000 where it is more
 abbrev pub exchanged : Job → TransferLeft
@@ -24,12 +27,19 @@ exchanged j =
 abbrev pub listing : ℕ → TransferLeft → List ℕ
 listing k t =
     let r = t .call .result in
-    accessLines (take (2 * r .accesses) (t .call .log)) ++ elementLines k (t .buffer) ++ resultLine (t .call .number) (r .accesses) (r .answers)
+    accessLines (take (2 * r .accesses) (t .call .log)) ++ (elementLines k (t .buffer) ++ resultLine (t .call .number) (r .accesses) (r .answers))
 
 -- anything else prints `bad`
-abbrev answer : Option Job → List ℕ
+abbrev pub answer : Option Job → List ℕ
 answer none = bytes "bad\n"
 answer (some j) = listing (j .header .width) (exchanged j)
 
+-- an input of more than 131,072 bytes is bad
 abbrev pub buslog : List ℕ → List ℕ
-buslog text = answer (job text)
+buslog text = answer (cond (leb (length text) 131072) (job text) none)
+
+-- a buffer with a text over its front, and the text's length
+pub record Printed (text before after : List ℕ) (n : ℕ) : Type 0 where
+  pub count : n ≡ length text
+  pub fits : n ≤ length after
+  pub buffer : after ≡ laid text before

@@ -1,9 +1,10 @@
 -- What the code's answers stand for (private contracts cite it).
 -- Assumes nothing.
-use Prim.Native.Nat.{ℕ, _≤_}
+use Prim.Native.Nat.{ℕ, _^_, _<_, _≤_}
 use mathlib.Core.List.{List}
+use mathlib.Core.Logic.{_⊎_}
 use mathlib.Core.Path.{_≡_}
-use lib.ListN.{length, take}
+use lib.ListN.{length, getD, take}
 use mathlib.Core.Option.{Option, none, some}
 use Rattle.words.specs.declared.order.BitOrder.{BitOrder}
 use Rattle.lines.specs.declared.parse.First.{First}
@@ -40,3 +41,11 @@ Answers o write script (Request q) =
     (q .writes ≤ length write) × (q .reads ≤ 512) × (q .answers ≤ length script)
     × (o ≡ some (record { header = q .header; write = take (q .writes) write; read = q .reads; script = take (q .answers) script }))
 Answers o write script Malformed = o ≡ none
+
+-- what every job has
+pub record Sound (j : Job) : Type 0 where
+  pub width : (j .header .width ≡ 8) ⊎ (j .header .width ≡ 16) ⊎ (j .header .width ≡ 32)
+  pub budget : j .header .budget < 2 ^ 32
+  pub write : length (j .write) ≤ 512
+  pub read : j .read ≤ 512
+  pub elements : (i : ℕ) → getD (j .write) i 0 < 2 ^ (j .header .width)

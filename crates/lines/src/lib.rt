@@ -1,3 +1,5 @@
 // The lines of `buslog`: four in, the listing out.
+pub mod buslog;
+mod list;
 mod parse;
 mod print;

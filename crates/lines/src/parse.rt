@@ -20,7 +20,7 @@ pub(crate) enum Order {
 }
 
 // What the first line says.
-pub struct Header {
+pub(crate) struct Header {
     pub width: usize,
     pub order: BitOrder,
     pub budget: usize,
@@ -32,14 +32,14 @@ pub(crate) enum First {
 }
 
 // What the four lines ask for; the elements stand in buffers.
-pub struct Asked {
+pub(crate) struct Asked {
     pub header: Header,
     pub writes: usize,
     pub reads: usize,
     pub answers: usize,
 }
 
-pub enum Parsed {
+pub(crate) enum Parsed {
     Request(Asked),
     Malformed,
 }
@@ -314,7 +314,7 @@ fn read_lines(
 }
 
 // The job of a text, and its elements at the fronts of two buffers.
-fn read_job(text: &[u8], written: &mut [u32], answers: &mut [u32]) -> Parsed
+pub(crate) fn read_job(text: &[u8], written: &mut [u32], answers: &mut [u32]) -> Parsed
     requires { ⌜ (512 ≤ length (now written)) × (8000 ≤ length (now answers)) ⌝ }
     ensures { λ r. ⌜ Answers (job (now (text .entry))) (now (written .exit)) (now (answers .exit)) r ⌝ }
 {

@@ -17,7 +17,7 @@ fn glyph(digit: u32) -> u8
     }
 }
 
-fn put(out: &mut [u8], at: usize, byte: u8) -> usize
+pub(crate) fn put(out: &mut [u8], at: usize, byte: u8) -> usize
     requires { ⌜ at < length (now out) ⌝ }
     ensures { λ r. ⌜ (r ≡ at + 1) × (now (out .exit) ≡ written (now (out .entry)) at (byte ∷ [])) ⌝ }
 {

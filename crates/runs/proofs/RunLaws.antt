@@ -12,7 +12,8 @@ use lib.ListN.{length, getD, set, drop, length-append}
 use borrow.Author.Tests.{ltb-false}
 use lib.Seq.{drop-cons, set-at, append-snoc}
 use Rattle.machine.specs.declared.access.Access.{Access}
-use Rattle.runs.specs.Run.{Logged, flat, codeOf, valueOf, halted, times, State, afterAccess, step, run, limits, logOver, put}
+use Rattle.machine.specs.declared.access.Access.the-variants.{Read, Write, Send, Receive, Done}
+use Rattle.runs.specs.Run.{Logged, flat, codeOf, valueOf, usesOf, halted, times, State, afterAccess, step, run, limits, logOver, put}
 
 -- STEPS
 
@@ -63,6 +64,28 @@ module _ {M : Type 0} (next : M → Access) (resume : M → ℕ → M) (words : 
   run-log zero s = omega arith
   run-log (suc n) s = omega (arith, step-log s, run-log n (step next resume words script s))
 
+  -- NO MORE ANSWERS USED THAN ACCESSES MADE
+  uses-one : (a : Access) → usesOf a ≤ 1
+  uses-one (Read r) = omega arith
+  uses-one (Write r w) = omega arith
+  uses-one (Send i) = omega arith
+  uses-one (Receive i) = omega arith
+  uses-one (Done e) = omega arith
+
+  step-used : (s : State M) → s .used ≤ length (s .log) → step next resume words script s .used ≤ length (step next resume words script s .log)
+  unfolding step afterAccess
+  step-used s h = by-test (halted (next (s .machine)) (s .used) (length script))
+    where
+      by-test : (t : Bool) → cond t s (afterAccess next resume words script (next (s .machine)) s) .used ≤ length (cond t s (afterAccess next resume words script (next (s .machine)) s) .log)
+      by-test true = h
+      by-test false =
+          omega (arith, uses-one (next (s .machine)), length-append (s .log) (record { at = codeOf (next (s .machine)); value = valueOf (words (s .received)) (next (s .machine)) (getD script (s .used) 0) } ∷ []))
+
+  pub run-used : (n : ℕ) (s : State M) → s .used ≤ length (s .log) → run next resume words script n s .used ≤ length (run next resume words script n s .log)
+  unfolding times
+  run-used zero s h = h
+  run-used (suc n) s h = run-used n (step next resume words script s) (step-used s h)
+
 -- THE LOG, as a loop writes it: a pair at a time over the old one
 
 length-flat : (l : List Logged) → length (flat l) ≡ 2 * length l
@@ -93,7 +116,14 @@ log-put old l a h =
     ∙ set-two (flat l) (drop (m + 2) old) (getD old m 0) (getD old (m + 1) 0) (a .at) (a .value) m (length-flat l)
     ∙ ap₂ (λ (x : List ℕ) (k : ℕ). x ++ drop k old) (sym (flat-last l a)) e
 
--- room for the budget where number 5 is not given
+-- budget and log where number 5 is not given
+pub small-budget : (budget : ℕ) (log : List ℕ) → limits budget log ≡ false → budget ≤ 8000
+small-budget budget log e = ltb-false 8000 budget (first (ltb 8000 budget) (ltb (length log) (2 * budget)) e)
+  where
+    first : (a b : Bool) → (a || b) ≡ false → a ≡ false
+    first true b e = cc
+    first false b e = refl
+
 pub room : (budget : ℕ) (log : List ℕ) → limits budget log ≡ false → 2 * budget ≤ length log
 room budget log e = ltb-false (length log) (2 * budget) (second (ltb 8000 budget) (ltb (length log) (2 * budget)) e)
   where

@@ -18,13 +18,20 @@ use Rattle.machine.specs.declared.driver.Lpspi.{Lpspi}
 use Rattle.machine.specs.declared.transfer.Transfer.{Transfer}
 use Rattle.machine.specs.Driver.{driverCommand}
 use Rattle.machine.specs.Transfer.{startTransfer, endedTransfer, dueAccess, resumed}
+use Rattle.runs.specs.declared.result.RunResult.{RunResult}
 use Rattle.runs.specs.Run.{State, start, run, limits, endingOf, refused, ran}
 use Rattle.transfers.specs.Transfers.{Plan, begun, states, TransferLeft, transferred, separatePlan, inPlacePlan, exchangeSeparate, exchange}
 use Rattle.runs.specs.Unlimited.{Unlimited}
 use Rattle.runs.specs.Unready.{unreadyPolls}
-use Rattle.runs.proofs.RunLaws.{run-halted, run-log}
+use Rattle.runs.proofs.RunLaws.{run-halted, run-log, run-used, small-budget, room}
 use Rattle.runs.proofs.Unlimited.{transfer-unlimited}
 use Rattle.runs.proofs.Bill.{ok-exactly}
+
+-- the counts of a result, with its log
+pub record Counts (log : List ℕ) (r : RunResult) : Type 0 where
+  pub accesses : r .accesses ≤ 8000
+  pub pairs : 2 * r .accesses ≤ length log
+  pub answers : r .answers ≤ r .accesses
 
 module _ (k : ℕ) (d : Lpspi) (p : Plan) (budget : ℕ) (script : List ℕ) where
   abbrev from : Transfer → State Transfer
@@ -77,6 +84,20 @@ module _ (k : ℕ) (d : Lpspi) (p : Plan) (budget : ℕ) (script : List ℕ) whe
       by-limits : (b : Bool) → leaves b buffer log .call .result .accesses ≤ budget
       by-limits true = omega arith
       by-limits false = omega (arith, run-log dueAccess resumed (p .words) script budget (start (begun k d p)))
+
+  -- THE COUNTS fit the log, the largest budget and each other
+  pub call-counts : (buffer log : List ℕ) → Counts log (transferred k d p buffer budget script log .call .result)
+  call-counts buffer log = by-limits (limits budget log) refl
+    where
+      by-limits : (b : Bool) → limits budget log ≡ b → Counts log (leaves b buffer log .call .result)
+      by-limits true e = record { accesses = omega arith; pairs = omega arith; answers = omega arith }
+      by-limits false e =
+          let made = run-log dueAccess resumed (p .words) script budget (start (begun k d p)) in
+          record {
+            accesses = omega (arith, made, small-budget budget log e);
+            pairs = omega (arith, made, room budget log e);
+            answers = run-used dueAccess resumed (p .words) script budget (start (begun k d p)) (omega arith);
+          }
 
   -- WITH BUDGET ENOUGH FOR ITS SCRIPT a call leaves what its run comes to with no limit on accesses
   pub call-unlimited : 11 * (length script + 1) ≤ budget → Unlimited dueAccess resumed (p .words) script (start (begun k d p)) (states k d p script budget)

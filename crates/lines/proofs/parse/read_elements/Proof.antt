@@ -13,7 +13,8 @@ use Rattle.lines.specs.Text.{space, split}
 use Rattle.lines.specs.Grammar.{element, lineElements}
 use Rattle.lines.specs.Parse.{numberAnswer}
 use Rattle.lines.proofs.TextLaws.{nonzero, before-end}
-use Rattle.lines.proofs.ElementLaws.{later, fields, togo, togo-start, togo-bad, togo-more, togo-over, togo-end, empty-line}
+use Rattle.lines.proofs.PartLaws.{later, fields}
+use Rattle.lines.proofs.ElementLaws.{togo, togo-start, togo-bad, togo-more, togo-over, togo-end, empty-line}
 use borrow.Author.Needs.{needs}
 use Rattle.lines.proofs.parse.read_elements.Statement.{statement}
 use Rattle.lines.proofs.parse.read_elements.Tie as tie

@@ -7,7 +7,8 @@ use lib.ListN.{take, drop}
 use lib.Seq.{length-take-le}
 use Rattle.lines.specs.Text.{space, split}
 use Rattle.lines.specs.Grammar.{header}
-use Rattle.lines.proofs.ElementLaws.{later, first-part, next-part, no-part, four-fields}
+use Rattle.lines.proofs.PartLaws.{later, first-part, next-part, no-part}
+use Rattle.lines.proofs.JobLaws.{four-fields}
 use borrow.Author.Needs.{needs}
 use Rattle.lines.proofs.parse.read_first.Statement.{statement}
 use Rattle.lines.proofs.parse.read_first.Tie as tie

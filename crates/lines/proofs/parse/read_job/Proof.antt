@@ -8,7 +8,8 @@ use lib.ListN.{take, drop}
 use lib.Seq.{length-take-le}
 use Rattle.lines.specs.Text.{newline, split}
 use Rattle.lines.specs.Grammar.{asked, job, lines}
-use Rattle.lines.proofs.ElementLaws.{later, first-part, next-part, no-part, fifth-line, four-lines, as-answers}
+use Rattle.lines.proofs.PartLaws.{later, first-part, next-part, no-part}
+use Rattle.lines.proofs.JobLaws.{fifth-line, four-lines, as-answers}
 use borrow.Author.Needs.{needs}
 use Rattle.lines.proofs.parse.read_job.Statement.{statement}
 use Rattle.lines.proofs.parse.read_job.Tie as tie

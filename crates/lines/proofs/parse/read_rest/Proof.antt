@@ -9,7 +9,8 @@ use lib.ListN.{take}
 use Rattle.lines.specs.declared.parse.Number.the-variants.{Value, Bad}
 use Rattle.lines.specs.Grammar.{count}
 use Rattle.lines.specs.Parse.{numberAnswer}
-use Rattle.lines.proofs.ElementLaws.{as-elements, at-most}
+use Rattle.lines.proofs.ElementLaws.{as-elements}
+use Rattle.lines.proofs.JobLaws.{at-most}
 use borrow.Author.Needs.{needs}
 use Rattle.lines.proofs.parse.read_rest.Statement.{statement}
 use Rattle.lines.proofs.parse.read_rest.Tie as tie
