@@ -7,3 +7,4 @@ pub mod command;
 mod driver;
 pub mod pack;
 pub mod run;
+pub mod text;
