@@ -12,7 +12,7 @@ copy=$(mktemp -d)
 trap 'rm -r "$copy"' EXIT
 mkdir "$copy/host"
 cp -r "$host"/{Cargo.toml,build.rs,benches,original,src,tests} "$copy/host"
-ln -s "$host/../crates" "$copy/crates"
+ln -s "$host/../crates" "$host/../docs" "$copy"
 cd "$copy/host"
 rm -r original/stand-ins/futures
 sed -i 's/^futures = .*/futures = { version = "0.3", default-features = false }/' original/Cargo.toml

@@ -110,6 +110,8 @@ extern "C" {
         answers: *mut usize,
         value: *mut u64,
     ) -> u32;
+
+    pub fn lpspi_buslog(input: *const u8, len: usize, out: *mut [u8; 131_072]) -> usize;
 }
 
 /// The transfers of buffers of one element type.

@@ -1,5 +1,5 @@
-//! Rust wrappers over the proved LPSPI core: commands, clocks, byte packing and
-//! runs.
+//! Rust wrappers over the proved LPSPI core: commands, clocks, byte packing, runs
+//! and `buslog`.
 //!
 //! The core is the static library `libc_api.a`; see `build.rs`.
 //!
@@ -209,4 +209,14 @@ pub fn pack_words_u8(order: BitOrder, bytes: &[u8], total: usize, words: &mut [u
 #[inline]
 pub fn unpack_words_u8(order: BitOrder, words: &[u32], total: usize, bytes: &mut [u8]) {
     raw::unpack_words_u8(order, words, total, bytes);
+}
+
+/// What the program `buslog` prints for its input: the listing of an exchange, or
+/// `bad`. See docs/BUSLOG.md.
+pub fn buslog(input: &[u8]) -> Vec<u8> {
+    let mut out = vec![0; raw::BUSLOG_OUTPUT];
+    let room = out.first_chunk_mut().expect("it is as long");
+    let len = raw::buslog(input, room);
+    out.truncate(len);
+    out
 }

@@ -88,3 +88,14 @@ pub fn unpack_words_u8(order: BitOrder, words: &[u32], total: usize, bytes: &mut
         )
     }
 }
+
+/// The size of `buslog`'s out-buffer, which has room for the longest listing.
+pub const BUSLOG_OUTPUT: usize = 131_072;
+
+/// Puts what `buslog` prints at the front of `out`, and answers how long it is. The
+/// rest of `out` is kept.
+#[inline]
+pub fn buslog(input: &[u8], out: &mut [u8; BUSLOG_OUTPUT]) -> usize {
+    // Safety: `input` is valid for its length, and `out` does not overlap it.
+    unsafe { ffi::lpspi_buslog(input.as_ptr(), input.len(), out) }
+}

@@ -2,20 +2,10 @@
 
 mod common;
 
-use common::run::{self, found, EXAMPLE_LISTING, EXAMPLE_SCRIPT};
+use common::buslog::{example_output, printed};
+use common::run::{found, Left, EXAMPLE_SCRIPT};
 use lpspi_host::{exchange_separate, flush, raw, Driver, Element, Run};
 use std::fmt::Debug;
-
-/// The run as `buslog` prints it.
-fn listing(log: &[u32], read: &[u8], run: Run) -> String {
-    let mut lines = run::listing(&log[..2 * run.accesses]);
-    lines.extend(read.iter().map(|byte| format!("{byte:02X}")));
-    let Run {
-        accesses, answers, ..
-    } = run;
-    lines.push(format!("{} {accesses} {answers}", run.number()));
-    lines.join("\n")
-}
 
 #[test]
 fn the_example() {
@@ -23,9 +13,11 @@ fn the_example() {
     let (mut read, mut log) = ([0u8], found(50));
     let driver = Driver::default();
     let run = exchange_separate(driver, &mut read, &[0xA5], 20, &script, &mut log);
-    let expected = format!("{EXAMPLE_LISTING}\n5A\n0 12 10");
-    assert_eq!(listing(&log, &read, run), expected);
     assert_eq!(log[24..], found(50)[24..]);
+    assert_eq!(
+        printed(&Left::new(run, read.to_vec(), log)),
+        example_output()
+    );
 }
 
 /// All answers of an exchange whose polls are all ready.

@@ -1,9 +1,13 @@
-//! Times the port against the original, both in this process.
+//! Times the port against the original: calls in this process, and the programs
+//! `buslog` of both.
 //!
 //! Run with `cargo bench`, and with `cargo bench --profile checked` for an original
 //! with overflow checks; the port is the same library in both. An argument after
-//! `--` is a part of the names of the jobs to time.
+//! `--` is a part of the names of the jobs to time. The programs must be there:
+//! `rt check buslog`, and `cargo build --example original_buslog` in the same profile
+//! (`--release`, or `--profile checked`).
 
+mod buslog;
 mod runs;
 mod scripts;
 mod timing;
@@ -17,4 +21,6 @@ fn main() {
     words::time();
     println!();
     runs::time();
+    println!();
+    buslog::time();
 }

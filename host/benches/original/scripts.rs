@@ -34,6 +34,29 @@ pub fn exchange(words: usize, burst: usize) -> Vec<u32> {
     script
 }
 
+/// An exchange that goes a word at a time, with so many unready polls of each side
+/// that it comes as near to that many accesses as it can.
+pub fn waiting(words: usize, accesses: usize) -> Vec<u32> {
+    let waits = (accesses - 4 - 8 * words) / 6;
+    // The others stand between words.
+    let first = waits + 1 - words;
+    let mut script = READY.to_vec();
+    for word in 0..words {
+        let before = first * (word + 1) / words - first * word / words;
+        script.extend([NO_SPACE, NO_WORD].concat().repeat(before));
+        script.extend(READY);
+        if word + 1 < words {
+            script.extend(NO_SPACE);
+        }
+        script.extend(READY);
+        script.push(received(word));
+        if word + 1 < words {
+            script.extend(NO_WORD);
+        }
+    }
+    script
+}
+
 /// A transfer that only sends, all polls ready.
 pub fn write(words: usize) -> Vec<u32> {
     READY.repeat(1 + words)

@@ -4,12 +4,13 @@
 //! [`run`] makes one call of the driver. A read takes the next answer of the
 //! script; the log has two words for each access: the register's offset, plus
 //! 0x1000 for a write, and the value. Commands, clocks and packing can also be had
-//! by themselves.
+//! by themselves. [`buslog`] makes a run from text and lists it.
 //!
 //! The source is not part of the repository: see `build.rs`. What it uses has
 //! stand-ins: `hal`, `ral` and `iomuxc` here, other crates in `stand-ins`.
 #![warn(missing_docs)]
 
+mod buslog;
 mod call;
 
 #[cfg(original)]
@@ -33,6 +34,7 @@ include!(concat!(env!("OUT_DIR"), "/modules.rs"));
 #[cfg(original)]
 use hal::{AnyInstance, into_any, spin_on};
 
+pub use buslog::buslog;
 pub use call::{
     Call, ClockConfigs, Command, Direction, Driver, Element, Failure, FifoStatus, Outcome,
     Transfer, Value,

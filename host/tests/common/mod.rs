@@ -5,6 +5,7 @@
 #![allow(dead_code)]
 
 pub mod branches;
+pub mod buslog;
 pub mod cases;
 pub mod random_runs;
 pub mod registers;
@@ -18,15 +19,20 @@ use std::io::{stderr, Write};
 use std::sync::{Once, OnceLock};
 use std::time::{SystemTime, UNIX_EPOCH};
 
+/// `LPSPI_SEED`, if set.
+fn asked_seed() -> Option<u64> {
+    let text = std::env::var("LPSPI_SEED").ok()?;
+    Some(text.parse().expect("LPSPI_SEED is a decimal u64"))
+}
+
 /// The seed of this run: `LPSPI_SEED` if set, else the time.
 fn seed() -> u64 {
     static SEED: OnceLock<u64> = OnceLock::new();
-    *SEED.get_or_init(|| match std::env::var("LPSPI_SEED") {
-        Ok(text) => text.parse().expect("LPSPI_SEED is a decimal u64"),
-        Err(_) => {
+    *SEED.get_or_init(|| {
+        asked_seed().unwrap_or_else(|| {
             let now = SystemTime::now().duration_since(UNIX_EPOCH);
             now.expect("the clock is past 1970").as_nanos() as u64
-        }
+        })
     })
 }
 
@@ -39,7 +45,15 @@ pub struct Random {
 impl Random {
     /// Starts from the run's seed and prints it.
     pub fn new(test: &'static str) -> Self {
-        let seed = seed();
+        Self::announced(test, seed())
+    }
+
+    /// Starts from `LPSPI_SEED` if set, else from 1, and prints it.
+    pub fn fixed(test: &'static str) -> Self {
+        Self::announced(test, asked_seed().unwrap_or(1))
+    }
+
+    fn announced(test: &'static str, seed: u64) -> Self {
         println!("{test}: LPSPI_SEED={seed}");
         Self::seeded(test, seed)
     }

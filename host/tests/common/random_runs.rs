@@ -63,7 +63,7 @@ fn free_answers<W>(random: &mut Random, script: &mut [u32], ended: &Left<W>) {
 
 /// Limits of a run. `words` tells how long a script is of use, and `port` makes the
 /// run.
-fn random_limits<W>(
+pub fn random_limits<W>(
     random: &mut Random,
     words: usize,
     port: impl FnOnce(&Limits) -> Left<W>,

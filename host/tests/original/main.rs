@@ -2,6 +2,7 @@
 //!
 //! Where the source is missing nothing is compared, and one line says so.
 
+mod buslog;
 mod calls;
 #[path = "../common/mod.rs"]
 mod common;
