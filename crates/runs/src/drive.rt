@@ -56,7 +56,7 @@ fn overlaid(frame: Frame, received: usize, i: usize) -> bool
 }
 
 // The word that is sent from a place.
-pub(crate) fn word_in(frame: Frame, send: &[u32], words: &[u32], received: usize, i: usize) -> u32
+pub fn word_in(frame: Frame, send: &[u32], words: &[u32], received: usize, i: usize) -> u32
     ensures { λ r. ⌜ r ≡ wordIn frame (now (send .entry)) (now (words .entry)) received i ⌝ }
 {
     if overlaid(frame, received, i) {
@@ -98,7 +98,7 @@ pub(crate) fn store(words: &mut [u32], received: usize, value: u32) -> usize
     }
 }
 
-fn keep(access: Access, words: &mut [u32], received: usize, value: u32) -> usize
+pub fn keep(access: Access, words: &mut [u32], received: usize, value: u32) -> usize
     ensures { λ r. ⌜ (r ≡ gotAfter access received (length (now (words .entry)))) × (now (words .exit) ≡ wordsAfter access (now (words .entry)) received value) ⌝ }
 {
     match access {

@@ -161,7 +161,7 @@ laid-stop (suc n) (suc m) f [] h s = refl
 laid-stop (suc n) (suc m) f (b ∷ bs) h s =
     ap (λ (l : List ℕ). f 0 ∷ l) (laid-stop n m (λ i. f (suc i)) bs (omega arith) (λ (l : n < m). let t = s (omega arith) in omega arith))
 
-tabulate-same : (n : ℕ) (f g : ℕ → ℕ) → ((i : ℕ) → i < n → f i ≡ g i) → tabulate n f ≡ tabulate n g
+pub tabulate-same : (n : ℕ) (f g : ℕ → ℕ) → ((i : ℕ) → i < n → f i ≡ g i) → tabulate n f ≡ tabulate n g
 tabulate-same zero f g h = refl
 tabulate-same (suc n) f g h = ap₂ (λ (x : ℕ) (l : List ℕ). x ∷ l) (h 0 (omega arith)) (tabulate-same n (λ i. f (suc i)) (λ i. g (suc i)) (λ i l. h (suc i) (omega arith)))
 

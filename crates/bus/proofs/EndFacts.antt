@@ -1,0 +1,604 @@
+-- What is known of an end after a list of events, by the phase that it is in, and that its steps keep it. `n` is the count of FIFO words each way,
+-- `other` the words that the other end started with.
+-- Assumes nothing.
+use Prim.Native.Nat.{ℕ, zero, suc, _+_, _-_, _^_, _<_, _≤_}
+use mathlib.Core.Bool.{Bool, true, false, cond, _||_, _&&_, not}
+use mathlib.Core.List.{List, [], _∷_, _++_}
+use mathlib.Core.Path.{_≡_, refl, sym, ap, _∙_, subst}
+use native.Mathlib.Numerals.{add-one}
+use native.Mathlib.Omega.{arith}
+use lib.Dec.{T, eqb, ltb, leb}
+use lib.ListN.{length, getD}
+use borrow.Author.Tests.{ltb-true, ltb-false, lt-ltb, eqb-true, lt-leb}
+use Rattle.manual.specs.declared.Cr.the-variants.{RST, RTF, RRF}
+use Rattle.manual.specs.declared.Field.the-variants.{Cr, Sr, Fsr, Param}
+use Rattle.manual.specs.declared.Fsr.the-variants.{TXCOUNT, RXCOUNT}
+use Rattle.manual.specs.declared.Param.the-variants.{TXFIFO}
+use Rattle.manual.specs.declared.Register.{Register}
+use Rattle.manual.specs.declared.Register.the-variants.{PARAM, SR, FSR, TCR, TDR}
+use Rattle.manual.specs.declared.Sr.the-variants.{TEF, REF, MBF}
+use Rattle.manual.specs.Manual.{readField}
+use Rattle.words.specs.Buffer.{tabulate}
+use Rattle.words.specs.declared.transaction.Direction.{Direction}
+use Rattle.words.specs.declared.transaction.Direction.the-variants.{Tx, Rx}
+use Rattle.words.specs.declared.transaction.LpspiError.the-variants.{FrameSize, Fifo}
+use Rattle.machine.specs.declared.access.Access.{Access}
+use Rattle.machine.specs.declared.access.Access.the-variants.{Read, Write, Send as SendWord, Receive as ReceiveWord, Done}
+use Rattle.machine.specs.declared.access.Ending.{Ending}
+use Rattle.machine.specs.declared.access.Ending.the-variants.{Ok, Err, Stopped, Limits, ZeroClock, FifoExponent}
+use Rattle.machine.specs.declared.flush.Flush.{Flush}
+use Rattle.machine.specs.declared.flush.Flush.the-variants.{Status as FlushStatus, Sizes as FlushSizes, Counts as FlushCounts, Ended as Flushed}
+use Rattle.machine.specs.declared.poll.Poll.{Poll}
+use Rattle.machine.specs.declared.poll.Poll.the-variants.{Status, Sizes, Counts}
+use Rattle.machine.specs.declared.poll.Polled.{Polled}
+use Rattle.machine.specs.declared.poll.Polled.the-variants.{Failed, Next, Ready, Unready}
+use Rattle.machine.specs.declared.sequence.Sequence.{Sequence}
+use Rattle.machine.specs.declared.transfer.Phase.{Phase}
+use Rattle.machine.specs.declared.transfer.Phase.the-variants.{Space, Command, Sending, Send, Receiving, Receive, Recovery, Ended}
+use Rattle.machine.specs.declared.transfer.Work.{Work}
+use Rattle.machine.specs.Flush.{flushAccess, flushed}
+use Rattle.machine.specs.Poll.{failed, ready}
+use Rattle.machine.specs.Recovery.{recoveryAccess, recoveryAfter, recovered}
+use Rattle.machine.specs.Transfer.{at, sendTurn, receiveTurn, oneSent, oneReceived, counted, spaceBy, sendingBy, receivingBy, dueAccess, resumed}
+use Rattle.runs.specs.Run.{answerOf, receivedAfter, ended}
+use Rattle.runs.proofs.Places.{counted-up, done-phase}
+use Rattle.bus.specs.declared.register.Role.{Role}
+use Rattle.bus.specs.declared.register.Role.the-variants.{Sizes as sizes, Status as status, Counts as counts, Control as control, Sends as sends, Receives as receives, Holds as holds}
+use Rattle.bus.specs.Start.{Job}
+use Rattle.bus.specs.End.{Wire, queues, raised, lowered, full, sentInto, front, behind, emptiedIf, roleOf, placeOf, showsBy, shows, readBy, writtenBy, answerTo, wireAfter, registersAfter, freshWire, End, end, firstDue, endAccess, afterAccess, stepped}
+use Rattle.bus.specs.Tally.{Tally, none, overrun, overrunBy}
+use Rattle.bus.specs.Agreement.{OkTwice, Emptied, seen}
+use Rattle.bus.proofs.ShownLaws.{shows-t, shows-r, shows-busy, shows-exponent, shows-transmit, shows-receive, below-depth, depth-small}
+use Rattle.bus.proofs.WordLists.{from, length-snoc, snoc-is, uncons, length-behind, emptied-less, emptied-is, lowered-set, false-true, nil-of, all-from}
+use Rattle.bus.proofs.RecoveryFacts.{silent, Quiet, recovery-quiet}
+
+-- the word at a place is that of the start while fewer words were received
+abbrev pub Keeps : Job → Type 0
+Keeps j = (rs : List ℕ) (i : ℕ) → length rs ≤ i → j .words rs i ≡ j .words [] i
+
+-- the words that an end started with
+abbrev pub own : Job → ℕ → ℕ
+own j i = j .words [] i
+
+-- accesses that send nothing
+quiet-sends : (a : Access) {i : ℕ} → Quiet a → a ≡ SendWord i → ⊥
+quiet-sends a {i} h e = subst (λ (x : Access). Quiet x) e h
+
+read-sends : {r : Register} {i : ℕ} → Read r ≡ SendWord i → ⊥
+read-sends h = let z : _≡_ {A = ℕ} 0 1 = cc in omega arith
+
+done-sends : {x : Ending} {i : ℕ} → Done x ≡ SendWord i → ⊥
+done-sends h = let z : _≡_ {A = ℕ} 0 1 = cc in omega arith
+
+-- the place of a word that is sent
+place : Access → ℕ
+place (Read r) = 0
+place (Write r v) = 0
+place (SendWord i) = i
+place (ReceiveWord i) = 0
+place (Done x) = 0
+
+-- accesses that receive nothing
+not-quiet : (a : Access) {i : ℕ} → Quiet a → a ≡ ReceiveWord i → ⊥
+not-quiet a {i} h e = subst (λ (x : Access). Quiet x) e h
+
+not-read : {r : Register} {i : ℕ} → Read r ≡ ReceiveWord i → ⊥
+not-read h = let z : _≡_ {A = ℕ} 0 1 = cc in omega arith
+
+not-sent : {j i : ℕ} → SendWord j ≡ ReceiveWord i → ⊥
+not-sent h = let z : _≡_ {A = ℕ} 0 1 = cc in omega arith
+
+not-done : {x : Ending} {i : ℕ} → Done x ≡ ReceiveWord i → ⊥
+not-done h = let z : _≡_ {A = ℕ} 0 1 = cc in omega arith
+
+module _ (n : ℕ) (accepts : Bool) (j : Job) (other : ℕ → ℕ) where
+  -- WHILE A TRANSFER GOES ON, or once it has answered Ok. t: clocks, as the transmit queue counts them; c: as the receive queue does; m: words that
+  -- the other end made up
+  pub record Core (t c m : ℕ) (τ : Tally) (k : Work) (rs : List ℕ) (w : Wire) : Type 0 where
+    pub yes : accepts ≡ true
+    pub toSend : k .send ≡ n
+    pub toReceive : k .receive ≡ n
+    pub taken : k .received ≡ length rs
+    pub inEq : length rs + length (w .receive) + τ .lost ≡ c
+    pub outEq : t + length (w .transmit) ≡ k .sent + τ .madeUp
+    pub most : k .sent ≤ n
+    pub rxIs : τ .lost ≡ 0 → m ≡ 0 → w .receive ≡ from other (length rs) (length (w .receive))
+    pub gotIs : τ .lost ≡ 0 → m ≡ 0 → rs ≡ from other 0 (length rs)
+
+  -- a poll that has read PARAM knows the exponent
+  abbrev pub Asked : Poll → Type 0
+  Asked Status = Unit {0}
+  Asked Sizes = Unit {0}
+  Asked (Counts v) = readField (Param TXFIFO) v ≡ j .exponent
+
+  -- the transfer has answered Ok
+  abbrev pub NowFlush : Flush → ℕ → ℕ → ℕ → Tally → Work → List ℕ → Wire → Type 0
+  NowFlush FlushStatus t c m τ k rs w = Core t c m τ k rs w × (k .sent ≡ n) × (length rs ≡ n)
+  NowFlush FlushSizes t c m τ k rs w = Core t c m τ k rs w × (k .sent ≡ n) × (length rs ≡ n)
+  NowFlush FlushCounts t c m τ k rs w = Core t c m τ k rs w × (k .sent ≡ n) × (length rs ≡ n)
+  NowFlush (Flushed Ok) t c m τ k rs w = Core t c m τ k rs w × (k .sent ≡ n) × (length rs ≡ n) × (length (w .transmit) ≡ 0)
+  NowFlush (Flushed (Err FrameSize)) t c m τ k rs w = ⊥
+  NowFlush (Flushed (Err (Fifo d))) t c m τ k rs w = 0 < τ .flags
+  NowFlush (Flushed Stopped) t c m τ k rs w = ⊥
+  NowFlush (Flushed Limits) t c m τ k rs w = ⊥
+  NowFlush (Flushed ZeroClock) t c m τ k rs w = ⊥
+  NowFlush (Flushed FifoExponent) t c m τ k rs w = ⊥
+
+  -- what is known in each phase
+  abbrev pub Now : Phase → Flush → ℕ → ℕ → ℕ → Tally → Work → List ℕ → Wire → Type 0
+  Now (Space q) f t c m τ k rs w = Core t c m τ k rs w × (f ≡ FlushStatus) × Asked q × (k .sent < n) × (k .sent ≡ 0)
+  Now Command f t c m τ k rs w = Core t c m τ k rs w × (f ≡ FlushStatus) × (k .sent < n)
+  Now (Sending q) f t c m τ k rs w = Core t c m τ k rs w × (f ≡ FlushStatus) × Asked q × (k .sent < n)
+  Now Send f t c m τ k rs w = Core t c m τ k rs w × (f ≡ FlushStatus) × (k .sent < n) × (length (w .transmit) < j .exponent)
+  Now (Receiving q) f t c m τ k rs w = Core t c m τ k rs w × (f ≡ FlushStatus) × (length rs < n)
+  Now Receive f t c m τ k rs w = Core t c m τ k rs w × (f ≡ FlushStatus) × (length rs < n) × (0 < length (w .receive))
+  Now (Recovery d) f t c m τ k rs w = 0 < τ .flags
+  Now (Ended Ok) f t c m τ k rs w = NowFlush f t c m τ k rs w
+  Now (Ended (Err FrameSize)) f t c m τ k rs w = accepts ≡ false
+  Now (Ended (Err (Fifo d))) f t c m τ k rs w = 0 < τ .flags
+  Now (Ended Stopped) f t c m τ k rs w = ⊥
+  Now (Ended Limits) f t c m τ k rs w = ⊥
+  Now (Ended ZeroClock) f t c m τ k rs w = ⊥
+  Now (Ended FifoExponent) f t c m τ k rs w = ⊥
+
+  -- what is known in all of them
+  pub record Base (t : ℕ) (τ : Tally) (w : Wire) : Type 0 where
+    pub small : t ≤ n
+    pub capT : length (w .transmit) ≤ 2 ^ j .exponent
+    pub capR : length (w .receive) ≤ 2 ^ j .exponent
+    pub room : t + length (w .transmit) ≤ n + τ .madeUp
+    pub txIs : τ .madeUp ≡ 0 → w .transmit ≡ from (own j) t (length (w .transmit))
+    pub lostLe : τ .lost ≤ τ .flags
+    pub madeLe : τ .madeUp ≤ τ .flags
+    pub setT : w .t ≡ true → 0 < τ .flags
+    pub setR : w .r ≡ true → 0 < τ .flags
+
+  pub record Good (t c m : ℕ) (τ : Tally) (x : End) : Type 0 where
+    pub base : Base t τ (x .wire)
+    pub now : Now (x .transfer .phase) (x .flush) t c m τ (x .transfer .work) (x .received) (x .wire)
+
+  -- NO STEP OVERRUNS the transmit queue
+  quiet-fits : (a : Access) (w : Wire) → Quiet a → overrun (j .exponent) a w ≡ false
+  quiet-fits (Read r) w h = refl
+  quiet-fits (Write r v) w h = by-role (roleOf r) h
+    where
+      by-role : (x : Role) → T (silent x) → overrunBy x (j .exponent) w ≡ false
+      by-role sizes h = refl
+      by-role status h = refl
+      by-role counts h = refl
+      by-role control h = refl
+      by-role receives h = refl
+      by-role holds h = refl
+  quiet-fits (SendWord i) w h = absurd h
+  quiet-fits (ReceiveWord i) w h = absurd h
+  quiet-fits (Done x) w h = absurd h
+
+  quiet-first : (a later : Access) → Quiet a → firstDue a later ≡ a
+  quiet-first (Read r) later h = refl
+  quiet-first (Write r v) later h = refl
+  quiet-first (SendWord i) later h = absurd h
+  quiet-first (ReceiveWord i) later h = absurd h
+  quiet-first (Done x) later h = absurd h
+
+  not-full : (queue : List ℕ) → length queue < 2 ^ j .exponent → full (j .exponent) queue ≡ false
+  not-full queue h = lt-leb (2 ^ j .exponent) (length queue) h
+
+  module _ (small-e : j .exponent ≤ 4) (keeps : Keeps j) (c m : ℕ) (τ : Tally) where
+    abbrev At : Phase → Flush → Work → List ℕ → Wire → Type 0
+    At p f k rs w = Now p f c c m τ k rs w
+
+    now-cond : (y : Bool) (p q : Phase) (f : Flush) (k : Work) (rs : List ℕ) (w : Wire) → (y ≡ true → At p f k rs w) → (y ≡ false → At q f k rs w) → At (cond y p q) f k rs w
+    now-cond true p q f k rs w g h = g refl
+    now-cond false p q f k rs w g h = h refl
+
+    now-polled : (F : Polled → Phase) (y : Bool) (p q : Polled) (f : Flush) (k : Work) (rs : List ℕ) (w : Wire) → (y ≡ true → At (F p) f k rs w) → (y ≡ false → At (F q) f k rs w)
+        → At (F (cond y p q)) f k rs w
+    now-polled F true p q f k rs w g h = g refl
+    now-polled F false p q f k rs w g h = h refl
+
+    now-flush : (y : Bool) (p q : Flush) (k : Work) (rs : List ℕ) (w : Wire) → (y ≡ true → NowFlush p c c m τ k rs w) → (y ≡ false → NowFlush q c c m τ k rs w)
+        → NowFlush (cond y p q) c c m τ k rs w
+    now-flush true p q k rs w g h = g refl
+    now-flush false p q k rs w g h = h refl
+
+    -- THE TURNS
+    all-done : (f : Flush) (k : Work) (rs : List ℕ) (w : Wire) → c ≤ n → f ≡ FlushStatus → Core c c m τ k rs w → k .send ≤ k .sent → k .receive ≤ k .received → At (Ended Ok) f k rs w
+    all-done f k rs w l e x hs hr =
+        subst (λ (g : Flush). NowFlush g c c m τ k rs w) (sym e)
+        (x, omega (arith, x .toSend, x .most), omega (arith, x .toReceive, x .taken, x .inEq))
+
+    pub now-receive-turn : (f : Flush) (k : Work) (rs : List ℕ) (w : Wire) → c ≤ n → f ≡ FlushStatus → Core c c m τ k rs w → At (receiveTurn k) f k rs w
+    now-receive-turn f k rs w l e x =
+        now-cond (ltb (k .received) (k .receive)) (Receiving Status) (cond (ltb (k .sent) (k .send)) (Sending Status) (Ended Ok)) f k rs w
+        (λ h. (x, e, omega (arith, ltb-true (k .received) (k .receive) h, x .taken, x .toReceive)))
+        (λ h. now-cond (ltb (k .sent) (k .send)) (Sending Status) (Ended Ok) f k rs w (λ h′. (x, e, tt, omega (arith, ltb-true (k .sent) (k .send) h′, x .toSend)))
+        (λ h′. all-done f k rs w l e x (ltb-false (k .sent) (k .send) h′) (ltb-false (k .received) (k .receive) h)))
+
+    pub now-send-turn : (f : Flush) (k : Work) (rs : List ℕ) (w : Wire) → c ≤ n → f ≡ FlushStatus → Core c c m τ k rs w → At (sendTurn k) f k rs w
+    now-send-turn f k rs w l e x =
+        now-cond (ltb (k .sent) (k .send)) (Sending Status) (cond (ltb (k .received) (k .receive)) (Receiving Status) (Ended Ok)) f k rs w
+        (λ h. (x, e, tt, omega (arith, ltb-true (k .sent) (k .send) h, x .toSend)))
+        (λ h. now-cond (ltb (k .received) (k .receive)) (Receiving Status) (Ended Ok) f k rs w (λ h′. (x, e, omega (arith, ltb-true (k .received) (k .receive) h′, x .taken, x .toReceive)))
+        (λ h′. all-done f k rs w l e x (ltb-false (k .sent) (k .send) h) (ltb-false (k .received) (k .receive) h′)))
+
+    -- A WORD SENT
+    abbrev pub pushed : List ℕ → Work → Wire → Wire
+    pushed rs k w = queues (w .transmit ++ (j .words rs (k .sent) ∷ [])) (w .receive) w
+
+    pub core-send : (k : Work) (rs : List ℕ) (w : Wire) → Core c c m τ k rs w → k .sent < n → Core c c m τ (oneSent k) rs (pushed rs k w)
+    core-send k rs w x l =
+        let up : counted (k .sent) (k .send) ≡ k .sent + 1 = counted-up (k .sent) (k .send) (omega (arith, x .toSend)) in
+        record {
+          yes = x .yes;
+          toSend = x .toSend;
+          toReceive = x .toReceive;
+          taken = x .taken;
+          inEq = x .inEq;
+          outEq = omega (arith, up, x .outEq, length-snoc (w .transmit) (j .words rs (k .sent)));
+          most = omega (arith, up);
+          rxIs = x .rxIs;
+          gotIs = x .gotIs;
+        }
+
+    pub base-send : (k : Work) (rs : List ℕ) (w : Wire) → Core c c m τ k rs w → k .sent < n → length (w .transmit) < j .exponent → Base c τ w → Base c τ (pushed rs k w)
+    base-send k rs w x l f B =
+        let one = length-snoc (w .transmit) (j .words rs (k .sent)) in
+        record {
+          small = B .small;
+          capT = omega (arith, one, below-depth (j .exponent));
+          capR = B .capR;
+          room = omega (arith, one, x .outEq);
+          txIs = λ h.
+              snoc-is (own j) c (w .transmit) (j .words rs (k .sent)) (B .txIs h)
+              (keeps rs (k .sent) (omega (arith, x .inEq, x .outEq, h)) ∙ ap (own j) (let e : k .sent ≡ c + length (w .transmit) = omega (arith, x .outEq, h) in e));
+          lostLe = B .lostLe;
+          madeLe = B .madeLe;
+          setT = B .setT;
+          setR = B .setR;
+        }
+
+    -- A WORD RECEIVED
+    pub core-receive : (k : Work) (rs queue : List ℕ) (w : Wire) → w .receive ≡ queue → Core c c m τ k rs w → length rs < n → 0 < length queue
+        → Core c c m τ (oneReceived k) (rs ++ (front queue ∷ [])) (queues (w .transmit) (behind queue) w)
+    core-receive k rs [] w e x l h = absurd (omega arith)
+    core-receive k rs (v ∷ queue) w e x l h =
+        let up : counted (k .received) (k .receive) ≡ k .received + 1 = counted-up (k .received) (k .receive) (omega (arith, x .taken, x .toReceive)) in
+        let one = length-snoc rs v in
+        let len : length (w .receive) ≡ suc (length queue) = ap length e in
+        record {
+          yes = x .yes;
+          toSend = x .toSend;
+          toReceive = x .toReceive;
+          taken = omega (arith, up, one, x .taken);
+          inEq = omega (arith, one, len, x .inEq);
+          outEq = x .outEq;
+          most = x .most;
+          rxIs = λ a b.
+              let z : v ∷ queue ≡ from other (length rs) (length (v ∷ queue)) = subst (λ (q : List ℕ). q ≡ from other (length rs) (length q)) e (x .rxIs a b) in
+              uncons other (length rs) v queue z .1 ∙ ap (λ (i : ℕ). from other i (length queue)) (sym one);
+          gotIs = λ a b.
+              let z : v ∷ queue ≡ from other (length rs) (length (v ∷ queue)) = subst (λ (q : List ℕ). q ≡ from other (length rs) (length q)) e (x .rxIs a b) in
+              snoc-is other 0 rs v (x .gotIs a b) (uncons other (length rs) v queue z .0 ∙ ap other (let e′ : length rs ≡ 0 + length rs = omega arith in e′));
+        }
+
+    pub base-receive : (queue : List ℕ) (w : Wire) → w .receive ≡ queue → Base c τ w → Base c τ (queues (w .transmit) (behind queue) w)
+    base-receive queue w e B = record {
+      small = B .small;
+      capT = B .capT;
+      capR = omega (arith, length-behind queue, ap length e);
+      room = B .room;
+      txIs = B .txIs;
+      lostLe = B .lostLe;
+      madeLe = B .madeLe;
+      setT = B .setT;
+      setR = B .setR;
+    }
+
+    -- A WRITE to CR or SR
+    base-reset : (y y′ z z′ : Bool) (w : Wire) → Base c τ w → Base c τ (lowered y y′ (queues (emptiedIf z (w .transmit)) (emptiedIf z′ (w .receive)) w))
+    base-reset y y′ z z′ w B = record {
+      small = B .small;
+      capT = omega (arith, emptied-less z (w .transmit));
+      capR = omega (arith, emptied-less z′ (w .receive));
+      room = omega (arith, emptied-less z (w .transmit));
+      txIs = λ h. emptied-is z (w .transmit) (own j) c (B .txIs h);
+      lostLe = B .lostLe;
+      madeLe = B .madeLe;
+      setT = λ h. B .setT (lowered-set y (w .t) h);
+      setR = λ h. B .setR (lowered-set y′ (w .r) h);
+    }
+
+    base-read : (x : Role) (w : Wire) → Base c τ w → Base c τ (readBy x w)
+    base-read sizes w B = B
+    base-read status w B = B
+    base-read counts w B = B
+    base-read control w B = B
+    base-read sends w B = B
+    base-read receives w B = base-receive (w .receive) w refl B
+    base-read holds w B = B
+
+    base-write : (x : Role) (v : ℕ) (w : Wire) → T (silent x) → Base c τ w → Base c τ (writtenBy (j .exponent) x v w)
+    base-write sizes v w h B = B
+    base-write status v w h B = base-reset (eqb (readField (Sr TEF) v) 1) (eqb (readField (Sr REF) v) 1) false false w B
+    base-write counts v w h B = B
+    base-write control v w h B =
+        let reset = eqb (readField (Cr RST) v) 1 in
+        base-reset reset reset (reset || eqb (readField (Cr RTF) v) 1) (reset || eqb (readField (Cr RRF) v) 1) w B
+    base-write receives v w h B = B
+    base-write holds v w h B = B
+
+    -- an access that neither sends nor receives
+    base-quiet : (word : ℕ → ℕ) (a : Access) (w : Wire) → Quiet a → Base c τ w → Base c τ (wireAfter (j .exponent) word a w)
+    base-quiet word (Read r) w h B = base-read (roleOf r) w B
+    base-quiet word (Write r v) w h B = base-write (roleOf r) v w h B
+    base-quiet word (SendWord i) w h B = absurd h
+    base-quiet word (ReceiveWord i) w h B = absurd h
+    base-quiet word (Done x) w h B = absurd h
+
+    -- EVERY STEP KEEPS IT, phase by phase
+    shown-t : (busy : Bool) (w : Wire) (g : List ℕ) → failed Tx (shows (j .exponent) busy w g SR) ≡ w .t
+    shown-t busy w g = shows-t (j .exponent) busy w (getD g (placeOf SR) 0)
+
+    shown-r : (busy : Bool) (w : Wire) (g : List ℕ) → failed Rx (shows (j .exponent) busy w g SR) ≡ w .r
+    shown-r busy w g = shows-r (j .exponent) busy w (getD g (placeOf SR) 0)
+
+    pub shown-transmit : (busy : Bool) (w : Wire) (g : List ℕ) → Base c τ w → readField (Fsr TXCOUNT) (shows (j .exponent) busy w g FSR) ≡ length (w .transmit)
+    shown-transmit busy w g B = shows-transmit (j .exponent) busy w (getD g (placeOf FSR) 0) (omega (arith, B .capT, depth-small (j .exponent) small-e))
+
+    pub shown-receive : (busy : Bool) (w : Wire) (g : List ℕ) → Base c τ w → readField (Fsr RXCOUNT) (shows (j .exponent) busy w g FSR) ≡ length (w .receive)
+    shown-receive busy w g B = shows-receive (j .exponent) busy w (getD g (placeOf FSR) 0) (omega (arith, B .capR, depth-small (j .exponent) small-e))
+
+    keep-flush : (busy : Bool) (k : Work) (q : Sequence) (f : Flush) (rs : List ℕ) (w : Wire) (g : List ℕ) → Base c τ w → NowFlush f c c m τ k rs w
+        → Good c c m τ (stepped j busy (end (at (Ended Ok) k q) f rs w g))
+    unfolding stepped dueAccess resumed
+    keep-flush y k q FlushStatus rs w g B N = record {
+      base = B;
+      now =
+          let v = shows (j .exponent) y w g SR in
+          now-flush (eqb (readField (Sr REF) v) 1) (Flushed (Err (Fifo Rx))) (cond (eqb (readField (Sr TEF) v) 1) (Flushed (Err (Fifo Tx))) (cond (eqb (readField (Sr MBF) v) 1) FlushStatus FlushSizes)) k rs w
+          (λ h. B .setR (sym (shown-r y w g) ∙ h))
+          (λ h. now-flush (eqb (readField (Sr TEF) v) 1) (Flushed (Err (Fifo Tx))) (cond (eqb (readField (Sr MBF) v) 1) FlushStatus FlushSizes) k rs w
+          (λ h′. B .setT (sym (shown-t y w g) ∙ h′)) (λ h′. now-flush (eqb (readField (Sr MBF) v) 1) FlushStatus FlushSizes k rs w (λ h″. N) (λ h″. N)));
+    }
+    keep-flush y k q FlushSizes rs w g B N = record { base = B; now = N }
+    keep-flush y k q FlushCounts rs w g B N = record {
+      base = B;
+      now =
+          let v = shows (j .exponent) y w g FSR in
+          now-flush (eqb (readField (Fsr TXCOUNT) v) 0) (Flushed Ok) FlushStatus k rs w
+          (λ h. (N .0, N .1, N .2, sym (shown-transmit y w g B) ∙ eqb-true (readField (Fsr TXCOUNT) v) 0 h)) (λ h. N);
+    }
+    keep-flush y k q (Flushed x) rs w g B N = record { base = B; now = N }
+
+    -- once a transfer has answered anything else, its flush does not matter
+    keep-failed : (busy : Bool) (x : Ending) (k : Work) (q : Sequence) (f : Flush) (rs : List ℕ) (w : Wire) (g : List ℕ) → Base c τ w
+        → ((f′ : Flush) → At (Ended x) f′ k rs w) → Good c c m τ (stepped j busy (end (at (Ended x) k q) f rs w g))
+    unfolding stepped dueAccess resumed
+    keep-failed y x k q FlushStatus rs w g B N = record { base = B; now = N _ }
+    keep-failed y x k q FlushSizes rs w g B N = record { base = B; now = N _ }
+    keep-failed y x k q FlushCounts rs w g B N = record { base = B; now = N _ }
+    keep-failed y x k q (Flushed z) rs w g B N = record { base = B; now = N _ }
+
+    keep-recovery : (busy : Bool) (d : Direction) (k : Work) (q : Sequence) (f : Flush) (rs : List ℕ) (w : Wire) (g : List ℕ) → Base c τ w → 0 < τ .flags
+        → Good c c m τ (stepped j busy (end (at (Recovery d) k q) f rs w g))
+    unfolding stepped dueAccess resumed
+    keep-recovery y d k q f rs w g B N = let a = firstDue (recoveryAccess q) (flushAccess f) in let v = answerTo (j .exponent) y w g a in record {
+      base =
+          subst (λ (a : Access). Base c τ (wireAfter (j .exponent) (j .words rs) a w)) (sym (quiet-first (recoveryAccess q) (flushAccess f) (recovery-quiet q)))
+          (base-quiet (j .words rs) (recoveryAccess q) w (recovery-quiet q) B);
+      now =
+          now-cond (recovered (recoveryAfter q (answerOf a v))) (Ended (Err (Fifo d))) (Recovery d) (cond (ended (recoveryAccess q)) (flushed f (answerOf a v)) f) k (receivedAfter a v rs)
+          (wireAfter (j .exponent) (j .words rs) a w) (λ h. N) (λ h. N);
+    }
+
+    pub keep-step : (busy : Bool) (p : Phase) (k : Work) (q : Sequence) (f : Flush) (rs : List ℕ) (w : Wire) (g : List ℕ) → Base c τ w → At p f k rs w
+        → Good c c m τ (stepped j busy (end (at p k q) f rs w g))
+    unfolding stepped dueAccess resumed
+    keep-step y (Space Status) k q f rs w g B N = record {
+      base = B;
+      now = now-polled spaceBy (failed Tx (shows (j .exponent) y w g SR)) Failed (Next Sizes) f k rs w (λ h. B .setT (sym (shown-t y w g) ∙ h)) (λ h. N);
+    }
+    keep-step y (Space Sizes) k q f rs w g B N = record { base = B; now = (N .0, N .1, shows-exponent (j .exponent) y w (getD g (placeOf PARAM) 0) small-e, N .3, N .4) }
+    keep-step y (Space (Counts v)) k q f rs w g B N = record {
+      base = B;
+      now = now-polled spaceBy (ready Tx v (shows (j .exponent) y w g FSR)) Ready Unready f k rs w (λ h. (N .0, N .1, N .3)) (λ h. (N .0, N .1, tt, N .3, N .4));
+    }
+    keep-step y Command k q f rs w g B N = record { base = B; now = now-send-turn f k rs w (B .small) (N .1) (N .0) }
+    keep-step y (Sending Status) k q f rs w g B N = record {
+      base = B;
+      now = now-polled (sendingBy k) (failed Tx (shows (j .exponent) y w g SR)) Failed (Next Sizes) f k rs w (λ h. B .setT (sym (shown-t y w g) ∙ h)) (λ h. N);
+    }
+    keep-step y (Sending Sizes) k q f rs w g B N = record { base = B; now = (N .0, N .1, shows-exponent (j .exponent) y w (getD g (placeOf PARAM) 0) small-e, N .3) }
+    keep-step y (Sending (Counts v)) k q f rs w g B N = record {
+      base = B;
+      now =
+          let counted = readField (Fsr TXCOUNT) (shows (j .exponent) y w g FSR) in
+          now-polled (sendingBy k) (ready Tx v (shows (j .exponent) y w g FSR)) Ready Unready f k rs w
+          (λ h. (N .0, N .1, N .3, omega (arith, shown-transmit y w g B, ltb-true counted (readField (Param TXFIFO) v) h, N .2)))
+          (λ h. now-receive-turn f k rs w (B .small) (N .1) (N .0));
+    }
+    keep-step y Send k q f rs w g B N =
+        rw (not-full (w .transmit) (omega (arith, below-depth (j .exponent), N .3)))
+        (record {
+          base = base-send k rs w (N .0) (N .2) (N .3) B;
+          now = now-send-turn f (oneSent k) rs (pushed rs k w) (B .small) (N .1) (core-send k rs w (N .0) (N .2));
+        })
+    keep-step y (Receiving Status) k q f rs w g B N = record {
+      base = B;
+      now = now-polled (receivingBy k) (failed Rx (shows (j .exponent) y w g SR)) Failed (Next Sizes) f k rs w (λ h. B .setR (sym (shown-r y w g) ∙ h)) (λ h. N);
+    }
+    keep-step y (Receiving Sizes) k q f rs w g B N = record { base = B; now = N }
+    keep-step y (Receiving (Counts v)) k q f rs w g B N = record {
+      base = B;
+      now =
+          let there = readField (Fsr RXCOUNT) (shows (j .exponent) y w g FSR) in
+          now-polled (receivingBy k) (ready Rx v (shows (j .exponent) y w g FSR)) Ready Unready f k rs w
+          (λ h. (N .0, N .1, N .2, omega (arith, shown-receive y w g B, ltb-true 0 there h))) (λ h. now-send-turn f k rs w (B .small) (N .1) (N .0));
+    }
+    keep-step y Receive k q f rs w g B N = record {
+      base = base-receive (w .receive) w refl B;
+      now = now-receive-turn f (oneReceived k) (rs ++ (front (w .receive) ∷ [])) (queues (w .transmit) (behind (w .receive)) w) (B .small) (N .1) (core-receive k rs (w .receive) w refl (N .0) (N .2) (N .3));
+    }
+    keep-step y (Recovery d) k q f rs w g B N = keep-recovery y d k q f rs w g B N
+    keep-step y (Ended Ok) k q f rs w g B N = keep-flush y k q f rs w g B N
+    keep-step y (Ended (Err FrameSize)) k q f rs w g B N = keep-failed y (Err FrameSize) k q f rs w g B (λ f′. N)
+    keep-step y (Ended (Err (Fifo d))) k q f rs w g B N = keep-failed y (Err (Fifo d)) k q f rs w g B (λ f′. N)
+    keep-step y (Ended Stopped) k q f rs w g B N = absurd N
+    keep-step y (Ended Limits) k q f rs w g B N = absurd N
+    keep-step y (Ended ZeroClock) k q f rs w g B N = absurd N
+    keep-step y (Ended FifoExponent) k q f rs w g B N = absurd N
+
+  -- NO STEP OVERRUNS the transmit queue
+  flush-fits : (f : Flush) (w : Wire) → overrun (j .exponent) (flushAccess f) w ≡ false
+  flush-fits FlushStatus w = refl
+  flush-fits FlushSizes w = refl
+  flush-fits FlushCounts w = refl
+  flush-fits (Flushed x) w = refl
+
+  pub no-overrun : (t c m : ℕ) (τ : Tally) (p : Phase) (k : Work) (q : Sequence) (f : Flush) (rs : List ℕ) (w : Wire) → Now p f t c m τ k rs w
+      → overrun (j .exponent) (endAccess (at p k q) f) w ≡ false
+  unfolding dueAccess
+  no-overrun t c m τ (Space Status) k q f rs w N = refl
+  no-overrun t c m τ (Space Sizes) k q f rs w N = refl
+  no-overrun t c m τ (Space (Counts v)) k q f rs w N = refl
+  no-overrun t c m τ Command k q f rs w N = refl
+  no-overrun t c m τ (Sending Status) k q f rs w N = refl
+  no-overrun t c m τ (Sending Sizes) k q f rs w N = refl
+  no-overrun t c m τ (Sending (Counts v)) k q f rs w N = refl
+  no-overrun t c m τ Send k q f rs w N = not-full (w .transmit) (omega (arith, below-depth (j .exponent), N .3))
+  no-overrun t c m τ (Receiving Status) k q f rs w N = refl
+  no-overrun t c m τ (Receiving Sizes) k q f rs w N = refl
+  no-overrun t c m τ (Receiving (Counts v)) k q f rs w N = refl
+  no-overrun t c m τ Receive k q f rs w N = refl
+  no-overrun t c m τ (Recovery d) k q f rs w N =
+      ap (λ (a : Access). overrun (j .exponent) a w) (quiet-first (recoveryAccess q) (flushAccess f) (recovery-quiet q)) ∙ quiet-fits (recoveryAccess q) w (recovery-quiet q)
+  no-overrun t c m τ (Ended x) k q f rs w N = flush-fits f w
+
+  -- A PHASE'S FACTS STAY while the transmit queue does not grow and the receive queue does not shrink
+  flush-stays : (f : Flush) {t c m t′ c′ m′ : ℕ} {τ τ′ : Tally} {k : Work} {rs : List ℕ} {w w′ : Wire} → (Core t c m τ k rs w → Core t′ c′ m′ τ′ k rs w′)
+      → length (w′ .transmit) ≤ length (w .transmit) → τ .flags ≤ τ′ .flags → NowFlush f t c m τ k rs w → NowFlush f t′ c′ m′ τ′ k rs w′
+  flush-stays FlushStatus g a b N = (g (N .0), N .1, N .2)
+  flush-stays FlushSizes g a b N = (g (N .0), N .1, N .2)
+  flush-stays FlushCounts g a b N = (g (N .0), N .1, N .2)
+  flush-stays (Flushed Ok) g a b N = (g (N .0), N .1, N .2, omega (arith, N .3))
+  flush-stays (Flushed (Err FrameSize)) g a b N = absurd N
+  flush-stays (Flushed (Err (Fifo d))) g a b N = omega (arith, N)
+  flush-stays (Flushed Stopped) g a b N = absurd N
+  flush-stays (Flushed Limits) g a b N = absurd N
+  flush-stays (Flushed ZeroClock) g a b N = absurd N
+  flush-stays (Flushed FifoExponent) g a b N = absurd N
+
+  pub now-stays : (p : Phase) (f : Flush) {t c m t′ c′ m′ : ℕ} {τ τ′ : Tally} {k : Work} {rs : List ℕ} {w w′ : Wire} → (Core t c m τ k rs w → Core t′ c′ m′ τ′ k rs w′)
+      → length (w′ .transmit) ≤ length (w .transmit) → length (w .receive) ≤ length (w′ .receive) → τ .flags ≤ τ′ .flags
+      → Now p f t c m τ k rs w → Now p f t′ c′ m′ τ′ k rs w′
+  now-stays (Space q) f g a b d N = (g (N .0), N .1, N .2, N .3, N .4)
+  now-stays Command f g a b d N = (g (N .0), N .1, N .2)
+  now-stays (Sending q) f g a b d N = (g (N .0), N .1, N .2, N .3)
+  now-stays Send f g a b d N = (g (N .0), N .1, N .2, omega (arith, N .3))
+  now-stays (Receiving q) f g a b d N = (g (N .0), N .1, N .2)
+  now-stays Receive f g a b d N = (g (N .0), N .1, N .2, omega (arith, N .3))
+  now-stays (Recovery x) f g a b d N = omega (arith, N)
+  now-stays (Ended Ok) f g a b d N = flush-stays f g a d N
+  now-stays (Ended (Err FrameSize)) f g a b d N = N
+  now-stays (Ended (Err (Fifo x))) f g a b d N = omega (arith, N)
+  now-stays (Ended Stopped) f g a b d N = absurd N
+  now-stays (Ended Limits) f g a b d N = absurd N
+  now-stays (Ended ZeroClock) f g a b d N = absurd N
+  now-stays (Ended FifoExponent) f g a b d N = absurd N
+
+  -- A WORD IS RECEIVED only while some are to come, in a transfer that was accepted
+  pub receives-below : (t c m : ℕ) (τ : Tally) (p : Phase) (k : Work) (q : Sequence) (f : Flush) (rs : List ℕ) (w : Wire) (i : ℕ) → Now p f t c m τ k rs w → dueAccess (at p k q) ≡ ReceiveWord i
+      → (accepts ≡ true) × (length rs < n)
+  unfolding dueAccess
+  receives-below t c m τ (Space Status) k q f rs w i N h = absurd (not-read h)
+  receives-below t c m τ (Space Sizes) k q f rs w i N h = absurd (not-read h)
+  receives-below t c m τ (Space (Counts v)) k q f rs w i N h = absurd (not-read h)
+  receives-below t c m τ Command k q f rs w i N h = absurd (not-quiet (Write TCR (k .command)) tt h)
+  receives-below t c m τ (Sending Status) k q f rs w i N h = absurd (not-read h)
+  receives-below t c m τ (Sending Sizes) k q f rs w i N h = absurd (not-read h)
+  receives-below t c m τ (Sending (Counts v)) k q f rs w i N h = absurd (not-read h)
+  receives-below t c m τ Send k q f rs w i N h = absurd (not-sent h)
+  receives-below t c m τ (Receiving Status) k q f rs w i N h = absurd (not-read h)
+  receives-below t c m τ (Receiving Sizes) k q f rs w i N h = absurd (not-read h)
+  receives-below t c m τ (Receiving (Counts v)) k q f rs w i N h = absurd (not-read h)
+  receives-below t c m τ Receive k q f rs w i N h = (N .0 .yes, N .2)
+  receives-below t c m τ (Recovery d) k q f rs w i N h = absurd (not-quiet (recoveryAccess q) (recovery-quiet q) h)
+  receives-below t c m τ (Ended x) k q f rs w i N h = absurd (not-done h)
+
+  -- A WORD IS SENT only while some are to go, in a transfer that was accepted
+  pub sends-below : (t c m : ℕ) (τ : Tally) (p : Phase) (k : Work) (q : Sequence) (f : Flush) (rs : List ℕ) (w : Wire) (i : ℕ) → Now p f t c m τ k rs w → dueAccess (at p k q) ≡ SendWord i
+      → (accepts ≡ true) × (i < n)
+  unfolding dueAccess place
+  sends-below t c m τ (Space Status) k q f rs w i N h = absurd (read-sends h)
+  sends-below t c m τ (Space Sizes) k q f rs w i N h = absurd (read-sends h)
+  sends-below t c m τ (Space (Counts v)) k q f rs w i N h = absurd (read-sends h)
+  sends-below t c m τ Command k q f rs w i N h = absurd (quiet-sends (Write TCR (k .command)) tt h)
+  sends-below t c m τ (Sending Status) k q f rs w i N h = absurd (read-sends h)
+  sends-below t c m τ (Sending Sizes) k q f rs w i N h = absurd (read-sends h)
+  sends-below t c m τ (Sending (Counts v)) k q f rs w i N h = absurd (read-sends h)
+  sends-below t c m τ Send k q f rs w i N h = (N .0 .yes, subst (λ (a : Access). place a < n) h (N .2))
+  sends-below t c m τ (Receiving Status) k q f rs w i N h = absurd (read-sends h)
+  sends-below t c m τ (Receiving Sizes) k q f rs w i N h = absurd (read-sends h)
+  sends-below t c m τ (Receiving (Counts v)) k q f rs w i N h = absurd (read-sends h)
+  sends-below t c m τ Receive k q f rs w i N h = absurd (not-sent (sym h))
+  sends-below t c m τ (Recovery d) k q f rs w i N h = absurd (quiet-sends (recoveryAccess q) (recovery-quiet q) h)
+  sends-below t c m τ (Ended x) k q f rs w i N h = absurd (done-sends h)
+
+  -- AT FRESH: empty, accepted or refused
+  pub fresh-core : (m : ℕ) (k : Work) → accepts ≡ true → k .send ≡ n → k .receive ≡ n → k .sent ≡ 0 → k .received ≡ 0 → Core 0 0 m none k [] freshWire
+  fresh-core m k y a b d e = record {
+    yes = y;
+    toSend = a;
+    toReceive = b;
+    taken = e;
+    inEq = refl;
+    outEq = omega (arith, d);
+    most = omega (arith, d);
+    rxIs = λ h h′. refl;
+    gotIs = λ h h′. refl;
+  }
+
+  pub fresh-base : Base 0 none freshWire
+  fresh-base = record {
+    small = omega arith;
+    capT = omega arith;
+    capR = omega arith;
+    room = omega arith;
+    txIs = λ h. refl;
+    lostLe = omega arith;
+    madeLe = omega arith;
+    setT = λ h. absurd (false-true h);
+    setR = λ h. absurd (false-true h);
+  }
+
+  -- AN END THAT HAS HAD OK TWICE
+  module _ (c m : ℕ) (τ : Tally) where
+    ok-now : (p : Phase) (k : Work) (q : Sequence) (f : Flush) (rs : List ℕ) (w : Wire) → dueAccess (at p k q) ≡ Done Ok → flushAccess f ≡ Done Ok → Now p f c c m τ k rs w
+        → NowFlush (Flushed Ok) c c m τ k rs w
+    ok-now p k q f rs w hp hf N =
+        subst (λ (x : Flush). NowFlush x c c m τ k rs w) (flush-ended f hf) (subst (λ (x : Phase). Now x f c c m τ k rs w) (done-phase p k q Ok hp) N)
+      where
+        flush-ended : (f : Flush) → flushAccess f ≡ Done Ok → f ≡ Flushed Ok
+        flush-ended FlushStatus h = cc
+        flush-ended FlushSizes h = cc
+        flush-ended FlushCounts h = cc
+        flush-ended (Flushed x) h = cc
+
+    module _ (x : End) (G : Good c c m τ x) (ok : OkTwice (seen x)) where
+      pub ok-facts : NowFlush (Flushed Ok) c c m τ (x .transfer .work) (x .received) (x .wire)
+      ok-facts = ok-now (x .transfer .phase) (x .transfer .work) (x .transfer .reset) (x .flush) (x .received) (x .wire) (ok .0) (ok .1) (G .now)
+
+      pub ok-unhurt : τ .lost + τ .madeUp ≡ 0
+      ok-unhurt = let k = ok-facts in let B = G .base in omega (arith, k .0 .inEq, k .0 .outEq, k .1, k .2, k .3, B .small)
+
+      pub ok-empty : Emptied (seen x)
+      ok-empty = let k = ok-facts in let B = G .base in record {
+        transmit = nil-of (x .wire .transmit) (k .3);
+        receive = nil-of (x .wire .receive) (omega (arith, k .0 .inEq, k .0 .outEq, k .1, k .2, k .3, B .small));
+      }
+
+      pub ok-received : m ≡ 0 → x .received ≡ tabulate n other
+      ok-received z =
+          let k = ok-facts in
+          let u = ok-unhurt in
+          k .0 .gotIs (omega arith) z ∙ ap (from other 0) (k .2) ∙ all-from other n

@@ -1,0 +1,16 @@
+pub mod ShownLaws
+pub mod WordLists
+pub mod RecoveryFacts
+pub mod EndFacts
+pub mod WireFacts
+pub mod PairFacts
+pub mod SettleFacts
+pub mod FinishFacts
+pub mod StartFacts
+pub mod Demand3
+pub mod CourseFacts
+pub mod HeldLaws
+pub mod StationLaws
+pub mod RunLaws
+pub mod BeginLaws
+pub mod TrialLaws

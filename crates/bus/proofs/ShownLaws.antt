@@ -1,0 +1,86 @@
+-- What polls and flush make of the registers of an end: SR's flags, PARAM's exponent, FSR's counts.
+-- Assumes nothing.
+use Prim.Native.Nat.{ℕ, zero, suc, _^_, _<_, _≤_}
+use mathlib.Core.Bool.{Bool, true, false}
+use mathlib.Core.List.{[], _∷_}
+use mathlib.Core.Path.{_≡_, refl, _∙_}
+use native.Mathlib.Nat.{mod-eq-of-lt}
+use native.Mathlib.Omega.{arith}
+use lib.Dec.{eqb}
+use lib.ListN.{length}
+use Rattle.manual.specs.declared.Field.the-variants.{Sr, Fsr, Param}
+use Rattle.manual.specs.declared.Fsr.the-variants.{TXCOUNT, RXCOUNT}
+use Rattle.manual.specs.declared.Param.the-variants.{TXFIFO, RXFIFO}
+use Rattle.manual.specs.declared.Sr.the-variants.{TEF, REF, MBF}
+use Rattle.manual.specs.Manual.{readField}
+use Rattle.manual.proofs.ManualLaws.{read-all}
+use Rattle.bus.specs.declared.register.Role.the-variants.{Sizes as sizes, Status as status, Counts as counts}
+use Rattle.bus.specs.End.{Wire, showsBy}
+
+module _ (e : ℕ) (busy : Bool) (w : Wire) where
+  -- the transmit error flag is T, the receive error flag R, the busy flag what the step has
+  pub shows-t : (held : ℕ) → eqb (readField (Sr TEF) (showsBy e busy w status held)) 1 ≡ w .t
+  shows-t held = by-flags (w .t) (w .r) busy
+    where
+      by-flags : (t r b : Bool) → eqb (readField (Sr TEF) (showsBy e b (record { transmit = w .transmit; receive = w .receive; t = t; r = r }) status held)) 1 ≡ t
+      by-flags true true true = refl
+      by-flags true true false = refl
+      by-flags true false true = refl
+      by-flags true false false = refl
+      by-flags false true true = refl
+      by-flags false true false = refl
+      by-flags false false true = refl
+      by-flags false false false = refl
+
+  pub shows-r : (held : ℕ) → eqb (readField (Sr REF) (showsBy e busy w status held)) 1 ≡ w .r
+  shows-r held = by-flags (w .t) (w .r) busy
+    where
+      by-flags : (t r b : Bool) → eqb (readField (Sr REF) (showsBy e b (record { transmit = w .transmit; receive = w .receive; t = t; r = r }) status held)) 1 ≡ r
+      by-flags true true true = refl
+      by-flags true true false = refl
+      by-flags true false true = refl
+      by-flags true false false = refl
+      by-flags false true true = refl
+      by-flags false true false = refl
+      by-flags false false true = refl
+      by-flags false false false = refl
+
+  pub shows-busy : (held : ℕ) → eqb (readField (Sr MBF) (showsBy e busy w status held)) 1 ≡ busy
+  shows-busy held = by-flags (w .t) (w .r) busy
+    where
+      by-flags : (t r b : Bool) → eqb (readField (Sr MBF) (showsBy e b (record { transmit = w .transmit; receive = w .receive; t = t; r = r }) status held)) 1 ≡ b
+      by-flags true true true = refl
+      by-flags true true false = refl
+      by-flags true false true = refl
+      by-flags true false false = refl
+      by-flags false true true = refl
+      by-flags false true false = refl
+      by-flags false false true = refl
+      by-flags false false false = refl
+
+  -- PARAM's field is the exponent
+  pub shows-exponent : (held : ℕ) → e ≤ 4 → readField (Param TXFIFO) (showsBy e busy w sizes held) ≡ e
+  shows-exponent held h = let l : e < 2 ^ 8 = omega arith in read-all (Param TXFIFO) ((Param RXFIFO, e) ∷ (Param TXFIFO, e) ∷ []) 0 tt ∙ mod-eq-of-lt l
+
+  -- FSR counts the queues, of at most 16 words each
+  pub shows-transmit : (held : ℕ) → length (w .transmit) ≤ 16 → readField (Fsr TXCOUNT) (showsBy e busy w counts held) ≡ length (w .transmit)
+  shows-transmit held h =
+      let l : length (w .transmit) < 2 ^ 5 = omega arith in
+      read-all (Fsr TXCOUNT) ((Fsr RXCOUNT, length (w .receive)) ∷ (Fsr TXCOUNT, length (w .transmit)) ∷ []) 0 tt ∙ mod-eq-of-lt l
+
+  pub shows-receive : (held : ℕ) → length (w .receive) ≤ 16 → readField (Fsr RXCOUNT) (showsBy e busy w counts held) ≡ length (w .receive)
+  shows-receive held h =
+      let l : length (w .receive) < 2 ^ 5 = omega arith in
+      read-all (Fsr RXCOUNT) ((Fsr RXCOUNT, length (w .receive)) ∷ (Fsr TXCOUNT, length (w .transmit)) ∷ []) 0 tt ∙ mod-eq-of-lt l
+
+pub below-depth : (e : ℕ) → e < 2 ^ e
+below-depth zero = omega arith
+below-depth (suc e) = omega (arith, below-depth e)
+
+pub depth-small : (e : ℕ) → e ≤ 4 → 2 ^ e ≤ 16
+depth-small zero h = omega arith
+depth-small (suc zero) h = omega arith
+depth-small (suc (suc zero)) h = omega arith
+depth-small (suc (suc (suc zero))) h = omega arith
+depth-small (suc (suc (suc (suc zero)))) h = omega arith
+depth-small (suc (suc (suc (suc (suc e))))) h = omega arith

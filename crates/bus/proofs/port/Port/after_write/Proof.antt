@@ -1,0 +1,79 @@
+-- `Port::after_write` meets its contract.
+-- Assumes nothing.
+use mathlib.Core.Path.{_≡_, refl, sym, ap, ap₂, _∙_}
+use borrow.Author.Needs.{needs}
+use Rattle.bus.proofs.port.Port.after_write.Statement.{statement}
+use Rattle.bus.proofs.port.Port.after_write.Tie as tie
+
+enum-told : tie.Need-enum-told
+enum-told c = search needs
+
+enum-told-2 : tie.Need-enum-told-2
+enum-told-2 c = search needs
+
+clear-requires : tie.Need-clear-requires
+clear-requires c κs = search needs
+
+enum-told-3 : tie.Need-enum-told-3
+enum-told-3 c = search needs
+
+enum-told-4 : tie.Need-enum-told-4
+enum-told-4 c = search needs
+
+reset-requires : tie.Need-reset-requires
+reset-requires c κs = search needs
+
+enum-told-5 : tie.Need-enum-told-5
+enum-told-5 c = search needs
+
+send-requires : tie.Need-send-requires
+send-requires c κs = search needs
+
+enum-told-6 : tie.Need-enum-told-6
+enum-told-6 c = search needs
+
+enum-told-7 : tie.Need-enum-told-7
+enum-told-7 c = search needs
+
+returns : tie.Need-returns
+returns c = (c .before .before .pre .1, rw (c .enum-told .given .1))
+
+returns-2 : tie.Need-returns-2
+returns-2 c = (c .clear .ensures .0, rw (c .before .enum-told2 .given .1) (c .clear .ensures .1))
+
+returns-3 : tie.Need-returns-3
+returns-3 c = (c .before .before .pre .1, rw (c .enum-told3 .given .1))
+
+returns-4 : tie.Need-returns-4
+returns-4 c = (c .reset .ensures .0, rw (c .before .enum-told4 .given .1) (c .reset .ensures .1))
+
+returns-5 : tie.Need-returns-5
+returns-5 c = (c .send .ensures .0, rw (c .before .enum-told5 .given .1) (c .send .ensures .1))
+
+returns-6 : tie.Need-returns-6
+returns-6 c = (c .before .before .pre .1, rw (c .enum-told6 .given .1))
+
+returns-7 : tie.Need-returns-7
+returns-7 c = (c .before .before .pre .1, rw (c .enum-told7 .given .1))
+
+pub after-write-spec : {M : Type 1} → statement M
+after-write-spec =
+    tie.close
+    (tie.spec
+    enum-told
+    enum-told-2
+    clear-requires
+    enum-told-3
+    enum-told-4
+    reset-requires
+    enum-told-5
+    send-requires
+    enum-told-6
+    enum-told-7
+    returns
+    returns-2
+    returns-3
+    returns-4
+    returns-5
+    returns-6
+    returns-7)

@@ -1,0 +1,25 @@
+-- `Port::new` meets its contract.
+-- Assumes nothing.
+use Prim.Native.Nat.{ℕ}
+use mathlib.Core.Bool.{false}
+use mathlib.Core.List.{List}
+use mathlib.Core.Path.{ap₂}
+use mathlib.Core.Path.{_≡_, refl, sym, ap, _∙_}
+use borrow.Author.Needs.{needs}
+use Rattle.bus.proofs.port.Port.new.Statement.{statement}
+use Rattle.bus.proofs.port.Port.new.Tie as tie
+
+new-requires : tie.Need-new-requires
+new-requires c κs = search needs
+
+new-requires-2 : tie.Need-new-requires-2
+new-requires-2 c κs = search needs
+
+returns : tie.Need-returns
+returns c =
+    let a = c .before .new .ensures in
+    let b = c .new2 .ensures in
+    (record { transmit = a .0; receive = b .0 }, ap₂ (λ (x y : List ℕ). record { transmit = x; receive = y; t = false; r = false }) (a .1) (b .1))
+
+pub new-spec : {M : Type 1} → statement M
+new-spec = tie.close (tie.spec new-requires new-requires-2 returns)

@@ -1,0 +1,21 @@
+-- `flush_after` meets its contract.
+-- Assumes nothing.
+use mathlib.Core.Path.{_≡_, refl, sym, ap, _∙_}
+use borrow.Author.Needs.{needs}
+use Rattle.bus.proofs.station.flush_after.Statement.{statement}
+use Rattle.bus.proofs.station.flush_after.Tie as tie
+
+has-ended-requires : tie.Need-has-ended-requires
+has-ended-requires c κs = search needs
+
+answered-requires : tie.Need-answered-requires
+answered-requires c κs = search needs
+
+returns : tie.Need-returns
+returns c = rw (sym (c .before .before .has-ended .ensures) ∙ c .before .if1 .taken) (c .answered .ensures)
+
+returns-2 : tie.Need-returns-2
+returns-2 c = rw (sym (c .before .has-ended .ensures) ∙ c .if1 .left)
+
+pub flush-after-spec : {M : Type 1} → statement M
+flush-after-spec = tie.close (tie.spec has-ended-requires answered-requires returns returns-2)

@@ -1,0 +1,12 @@
+// A board at one end of the bus.
+use machine::driver::Lpspi;
+use words::width::Width;
+
+pub struct Board {
+    pub driver: Lpspi,
+    pub width: Width,
+    // One buffer is both written and read.
+    pub inplace: bool,
+    // Its FIFOs have 2^exponent places.
+    pub exponent: usize,
+}

@@ -1,0 +1,12 @@
+// The two-board bus: a gate board that clocks it, and an antenna board that replies.
+mod begin;
+pub mod board;
+mod buffers;
+mod clock;
+pub mod event;
+pub mod fifo;
+pub mod port;
+mod register;
+mod run;
+pub mod station;
+pub mod trial;
