@@ -114,13 +114,13 @@ extern "C" {
     pub fn lpspi_buslog(input: *const u8, len: usize, out: *mut [u8; 131_072]) -> usize;
 }
 
-/// The transfers of buffers of one element type.
+/// The transfers and trials of buffers of one element type.
 macro_rules! transfers {
-    ($($function:ident of $element:ty;)*) => {
+    ($($transfer:ident, $trial:ident of $element:ty;)*) => {
         extern "C" {
             $(
                 #[allow(clippy::too_many_arguments)]
-                fn $function(
+                fn $transfer(
                     kind: u32,
                     driver: *mut u32,
                     read: *mut $element,
@@ -135,11 +135,33 @@ macro_rules! transfers {
                     accesses: *mut usize,
                     answers: *mut usize,
                 ) -> u32;
+
+                #[allow(clippy::too_many_arguments)]
+                fn $trial(
+                    gate_driver: u32,
+                    antenna_driver: u32,
+                    in_place: u32,
+                    gate_exponent: usize,
+                    antenna_exponent: usize,
+                    gate_read: *mut $element,
+                    gate_read_len: usize,
+                    gate_write: *const $element,
+                    gate_write_len: usize,
+                    antenna_read: *mut $element,
+                    antenna_read_len: usize,
+                    antenna_write: *const $element,
+                    antenna_write_len: usize,
+                    events: *const u8,
+                    events_len: usize,
+                    state: *mut u32,
+                    state_len: usize,
+                ) -> u32;
             )*
         }
         $(
             impl Exported for $element {
-                const TRANSFER: Transfer<Self> = $function;
+                const TRANSFER: Transfer<Self> = $transfer;
+                const TRIAL: Trial<Self> = $trial;
             }
         )*
     };
@@ -161,13 +183,34 @@ pub type Transfer<W> = unsafe extern "C" fn(
     *mut usize,
 ) -> u32;
 
-/// The function of an element type.
+pub type Trial<W> = unsafe extern "C" fn(
+    u32,
+    u32,
+    u32,
+    usize,
+    usize,
+    *mut W,
+    usize,
+    *const W,
+    usize,
+    *mut W,
+    usize,
+    *const W,
+    usize,
+    *const u8,
+    usize,
+    *mut u32,
+    usize,
+) -> u32;
+
+/// The functions of an element type.
 pub trait Exported: Copy {
     const TRANSFER: Transfer<Self>;
+    const TRIAL: Trial<Self>;
 }
 
 transfers! {
-    lpspi_transfer_u8 of u8;
-    lpspi_transfer_u16 of u16;
-    lpspi_transfer_u32 of u32;
+    lpspi_transfer_u8, lpspi_trial_u8 of u8;
+    lpspi_transfer_u16, lpspi_trial_u16 of u16;
+    lpspi_transfer_u32, lpspi_trial_u32 of u32;
 }

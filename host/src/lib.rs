@@ -1,5 +1,5 @@
-//! Rust wrappers over the proved LPSPI core: commands, clocks, byte packing, runs
-//! and `buslog`.
+//! Rust wrappers over the proved LPSPI core: commands, clocks, byte packing, runs,
+//! `buslog` and trials of two boards on one bus.
 //!
 //! The core is the static library `libc_api.a`; see `build.rs`.
 //!
@@ -16,6 +16,7 @@ mod ffi;
 pub mod raw;
 pub mod reference;
 mod transfers;
+mod trial;
 mod values;
 
 pub use calls::{
@@ -28,6 +29,7 @@ pub use disabled::{
 };
 pub use driver::{Driver, Run};
 pub use transfers::{exchange, exchange_separate, flush, read_no_write, write_no_read, Element};
+pub use trial::{trial, Board, Trial, END_STATE};
 pub use values::{
     fifo_status, is_enabled, read_data, set_watermark, status, watermark, FifoStatus,
 };
@@ -106,6 +108,8 @@ pub enum Error {
     FifoExponent,
     /// More elements than a FIFO word holds.
     TooManyElements,
+    /// Two boards with a FIFO exponent over 4, or of unequal order or total length.
+    Unpaired,
 }
 
 impl Error {
@@ -120,6 +124,7 @@ impl Error {
             Self::ZeroClock => 6,
             Self::FifoExponent => 7,
             Self::TooManyElements => 8,
+            Self::Unpaired => 9,
         }
     }
 }
@@ -135,6 +140,7 @@ impl fmt::Display for Error {
             Self::ZeroClock => "a clock is zero",
             Self::FifoExponent => "FIFO exponent over 4",
             Self::TooManyElements => "more elements than a word holds",
+            Self::Unpaired => "boards that make no pair",
         })
     }
 }
@@ -156,7 +162,8 @@ fn answer<T>(number: u32, value: T) -> Result<T, Error> {
         6 => Err(Error::ZeroClock),
         7 => Err(Error::FifoExponent),
         8 => Err(Error::TooManyElements),
-        _ => panic!("result number {number} is not one of 0 to 8"),
+        9 => Err(Error::Unpaired),
+        _ => panic!("result number {number} is not one of 0 to 9"),
     }
 }
 

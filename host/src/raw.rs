@@ -12,9 +12,11 @@
 //! [`Driver::number`]: crate::Driver::number
 
 mod runs;
+mod trial;
 
 use crate::{ffi, BitOrder, Command};
 pub use runs::{disabled, flush, get, reset, set, transfer};
+pub use trial::trial;
 
 /// The TCR word of a command.
 #[inline]

@@ -1,1 +1,2 @@
 mod HostLaws
+mod PairLaws

@@ -1,3 +1,4 @@
 pub mod Host
 pub mod HostRun
 pub mod HostCall
+pub mod HostBus

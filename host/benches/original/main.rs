@@ -1,5 +1,5 @@
 //! Times the port against the original: calls in this process, and the programs
-//! `buslog` of both.
+//! `buslog` of both; and trials of the port on the bus, which the original has not.
 //!
 //! Run with `cargo bench`, and with `cargo bench --profile checked` for an original
 //! with overflow checks; the port is the same library in both. An argument after
@@ -7,6 +7,7 @@
 //! `rt check buslog`, and `cargo build --example original_buslog` in the same profile
 //! (`--release`, or `--profile checked`).
 
+mod bus;
 mod buslog;
 mod runs;
 mod scripts;
@@ -23,4 +24,6 @@ fn main() {
     runs::time();
     println!();
     buslog::time();
+    println!();
+    bus::time();
 }

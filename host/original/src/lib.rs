@@ -4,12 +4,14 @@
 //! [`run`] makes one call of the driver. A read takes the next answer of the
 //! script; the log has two words for each access: the register's offset, plus
 //! 0x1000 for a write, and the value. Commands, clocks and packing can also be had
-//! by themselves. [`buslog`] makes a run from text and lists it.
+//! by themselves. [`buslog`] makes a run from text and lists it. In [`bus`] two
+//! drivers exchange words.
 //!
 //! The source is not part of the repository: see `build.rs`. What it uses has
 //! stand-ins: `hal`, `ral` and `iomuxc` here, other crates in `stand-ins`.
 #![warn(missing_docs)]
 
+pub mod bus;
 mod buslog;
 mod call;
 

@@ -2,6 +2,7 @@
 //!
 //! Where the source is missing nothing is compared, and one line says so.
 
+mod bus;
 mod buslog;
 mod calls;
 #[path = "../common/mod.rs"]

@@ -1,0 +1,72 @@
+-- The two-board bus for a host: both boards at one width, and what a trial leaves: its number, both read buffers, and both ends' states as words.
+-- Assumes nothing.
+use Prim.Native.Nat.{ℕ, _/_, _%_}
+use mathlib.Core.List.{List, [], _∷_, _++_}
+use lib.Dec.{eqb}
+use lib.ListN.{length}
+use Rattle.words.specs.declared.width.Width.{Width}
+use Rattle.words.specs.Buffer.{filled}
+use Rattle.words.specs.Command.{flagOf}
+use Rattle.words.specs.Word.{laid}
+use Rattle.machine.specs.declared.access.Access.{Access}
+use Rattle.machine.specs.declared.access.Access.the-variants.{Read, Write, Send, Receive, Done}
+use Rattle.machine.specs.declared.flush.Flush.{Flush}
+use Rattle.machine.specs.declared.transfer.Transfer.{Transfer}
+use Rattle.machine.specs.Access.{numberOf}
+use Rattle.machine.specs.Flush.{flushAccess}
+use Rattle.machine.specs.Transfer.{dueAccess}
+use Rattle.bus.specs.declared.board.Board.{Board}
+use Rattle.bus.specs.Agreement.{Seen}
+use Rattle.bus.specs.End.{Wire}
+use Rattle.bus.specs.Trial.{Slices, slices, pick, placed, TrialLeft, trialOf}
+use Rattle.c_api.specs.HostRun.{driverOf}
+
+-- THE STATE OF AN END, 68 words
+
+-- document 01's number of an answer, 255 while there is none
+abbrev pub answerNumber : Access → ℕ
+answerNumber (Read r) = 255
+answerNumber (Write r v) = 255
+answerNumber (Send i) = 255
+answerNumber (Receive i) = 255
+answerNumber (Done x) = numberOf x
+
+-- the answers of the transfer and of the flush, T, R, and how many words each queue has
+abbrev pub headWords : Transfer → Flush → Wire → List ℕ
+headWords transfer flush wire =
+    answerNumber (dueAccess transfer) ∷ answerNumber (flushAccess flush) ∷ flagOf (wire .t) ∷ flagOf (wire .r) ∷ length (wire .transmit) ∷ length (wire .receive) ∷ []
+
+-- then the transmit queue, 0 past its words, the receive queue, and the 30 registers
+abbrev pub stateWords : Seen → List ℕ
+stateWords x = headWords (x .transfer) (x .flush) (x .wire) ++ (filled 0 16 (x .wire .transmit) ++ (filled 0 16 (x .wire .receive) ++ filled 0 30 (x .registers)))
+
+-- THE TRIAL
+
+-- in place where bit 0 is set
+abbrev pub boardOf : Width → ℕ → ℕ → ℕ → Board
+boardOf width driver inplace exponent = record { driver = driverOf driver; width = width; inplace = eqb (inplace % 2) 1; exponent = exponent }
+
+-- slices of other widths are not looked at
+abbrev pub lent : Width → List ℕ → Slices
+lent width xs = placed width xs (slices (0 ∷ []) (0 ∷ []) (0 ∷ []))
+
+pub record HostTrial : Type 0 where
+  pub number : ℕ
+  pub gateRead : List ℕ
+  pub antennaRead : List ℕ
+  pub state : List ℕ
+
+abbrev pub hostTrial : ℕ → List ℕ → List ℕ → List ℕ → HostTrial
+hostTrial number gateRead antennaRead state = record { number = number; gateRead = gateRead; antennaRead = antennaRead; state = state }
+
+-- both states, the gate's first, over the front of what was lent for them
+abbrev pub ofTrial : Width → TrialLeft → List ℕ → HostTrial
+ofTrial width t state = hostTrial (t .number) (pick width (t .gateReads)) (pick width (t .antennaReads)) (laid (stateWords (t .gate) ++ stateWords (t .antenna)) state)
+
+-- bit 0 of `inplace` is the gate's, bit 1 the antenna's
+abbrev pub trialBy : Width → ℕ → ℕ → ℕ → ℕ → ℕ → List ℕ → List ℕ → List ℕ → List ℕ → List ℕ → List ℕ → HostTrial
+trialBy width gateDriver antennaDriver inplace gateExponent antennaExponent gateRead gateWrite antennaRead antennaWrite events state =
+    ofTrial width
+    (trialOf (boardOf width gateDriver inplace gateExponent) (boardOf width antennaDriver (inplace / 2) antennaExponent)
+    (lent width gateRead) (lent width gateWrite) (lent width antennaRead) (lent width antennaWrite) events)
+    state

@@ -1,0 +1,291 @@
+// Two boards over the bus: the number of a trial, with both read buffers and both ends' states where they go.
+ghost use Prim.Native.Nat.{_<_, min};
+ghost use mathlib.Core.List.{_++_};
+ghost use mathlib.Core.Path.{_≡_};
+ghost use lib.ListN.{length, getD};
+ghost use Rattle.words.specs.declared.width.Width.the-variants.{U8, U16, U32};
+ghost use Rattle.words.specs.Command.{flagOf};
+ghost use Rattle.words.specs.Word.{laid};
+ghost use Rattle.bus.specs.Held.{queueOf, wireOf};
+ghost use Rattle.bus.specs.Trial.{stateOf};
+ghost use Rattle.c_api.specs.HostBus.{answerNumber, headWords, stateWords, boardOf, hostTrial, trialBy};
+use crate::driver::driver_of;
+use bus::board::Board;
+use bus::fifo::Fifo;
+use bus::station::Station;
+use bus::trial::EndState;
+use bus::trial::trial;
+use machine::access::Access;
+use words::width::Width;
+
+fn least(a: usize, b: usize) -> usize
+    ensures { λ r. ⌜ r ≡ min a b ⌝ }
+{
+    if a < b { a } else { b }
+}
+
+fn flag(on: bool) -> u32
+    ensures { λ r. ⌜ r ≡ flagOf on ⌝ }
+{
+    if on { 1 } else { 0 }
+}
+
+// Document 01's number, 255 while there is no answer.
+fn answer(access: Access) -> u32
+    ensures { λ r. ⌜ r ≡ answerNumber access ⌝ }
+{
+    match access {
+        Access::Read(_) => 255,
+        Access::Write(_, _) => 255,
+        Access::Send(_) => 255,
+        Access::Receive(_) => 255,
+        Access::Done(ending) => ending.number(),
+    }
+}
+
+fn counted(words: &[u32], count: usize) -> u32
+    requires { ⌜ length (now words) ≡ 16 ⌝ }
+    ensures { λ r. ⌜ r ≡ min count (length (now (words .entry))) ⌝ }
+{
+    least(count, words.len()) as u32
+}
+
+// The words in a queue of 16 places.
+fn count_in(words: &[u32; 16], count: usize) -> u32
+    ensures { λ r. ⌜ r ≡ min count (length (now (words .entry))) ⌝ }
+{
+    counted(words, count)
+}
+
+fn count(fifo: Fifo) -> u32
+    ensures { λ r. ⌜ r ≡ length (queueOf fifo) ⌝ }
+{
+    let words = fifo.words;
+    count_in(&words, fifo.count)
+}
+
+// 0 past the queue's words.
+fn queued(fifo: Fifo, i: usize) -> u32
+    requires { ⌜ i < 16 ⌝ }
+    ensures { λ r. ⌜ r ≡ getD (queueOf fifo) i 0 ⌝ }
+{
+    if i < fifo.count {
+        return fifo.words[i];
+    }
+    0
+}
+
+fn head(station: Station) -> [u32; 6]
+    ensures { λ r. ⌜ r ≡ headWords (station .transfer) (station .flush) (wireOf (station .port)) ⌝ }
+{
+    let transfer = station.transfer;
+    let flush = station.flush;
+    let port = station.port;
+    let transmit = port.transmit;
+    let receive = port.receive;
+    let done = answer(transfer.next());
+    let flushed = answer(flush.next());
+    let t = flag(port.t);
+    let r = flag(port.r);
+    let sends = count(transmit);
+    let receives = count(receive);
+    [done, flushed, t, r, sends, receives]
+}
+
+// Word `i` of an end's state.
+fn state_word(end: EndState, i: usize) -> u32
+    requires { ⌜ i < 68 ⌝ }
+    ensures { λ r. ⌜ r ≡ getD (stateWords (stateOf end)) i 0 ⌝ }
+{
+    let station = end.station;
+    if i < 6 {
+        let words = head(station);
+        return words[i];
+    }
+    let port = station.port;
+    if i < 22 {
+        let transmit = port.transmit;
+        return queued(transmit, i - 6);
+    }
+    if i < 38 {
+        let receive = port.receive;
+        return queued(receive, i - 22);
+    }
+    let registers = end.registers;
+    registers[i - 38]
+}
+
+// Word `i` of both states.
+fn pair_word(gate: EndState, antenna: EndState, i: usize) -> u32
+    requires { ⌜ i < 136 ⌝ }
+    ensures { λ r. ⌜ r ≡ getD (stateWords (stateOf gate) ++ stateWords (stateOf antenna)) i 0 ⌝ }
+{
+    if i < 68 {
+        return state_word(gate, i);
+    }
+    state_word(antenna, i - 68)
+}
+
+// What has no room is dropped.
+fn show(gate: EndState, antenna: EndState, state: &mut [u32])
+    ensures { λ _. ⌜ now (state .exit) ≡ laid (stateWords (stateOf gate) ++ stateWords (stateOf antenna)) (now (state .entry)) ⌝ }
+{
+    let n = least(136, state.len());
+    for i in 0..n {
+        state[i] = pair_word(gate, antenna, i);
+    }
+}
+
+// In place where bit 0 of `inplace` is set.
+fn board(width: Width, driver: u32, inplace: u32, exponent: usize) -> Board
+    ensures { λ r. ⌜ r ≡ boardOf width driver inplace exponent ⌝ }
+{
+    let driver = driver_of(driver);
+    Board {
+        driver,
+        width,
+        inplace: inplace % 2 == 1,
+        exponent,
+    }
+}
+
+#[no_mangle]
+pub extern "C" fn lpspi_trial_u8(
+    gate_driver: u32,
+    antenna_driver: u32,
+    inplace: u32,
+    gate_exponent: usize,
+    antenna_exponent: usize,
+    gate_read: &mut [u8],
+    gate_write: &[u8],
+    antenna_read: &mut [u8],
+    antenna_write: &[u8],
+    events: &[u8],
+    state: &mut [u32],
+) -> u32
+    ensures { λ r. ⌜ hostTrial r (now («gate_read» .exit)) (now («antenna_read» .exit)) (now (state .exit)) ≡ trialBy U8 «gate_driver» «antenna_driver» inplace «gate_exponent» «antenna_exponent» (now («gate_read» .entry)) (now («gate_write» .entry)) (now («antenna_read» .entry)) (now («antenna_write» .entry)) (now (events .entry)) (now (state .entry)) ⌝ }
+{
+    let gate = board(Width::U8, gate_driver, inplace, gate_exponent);
+    let antenna = board(Width::U8, antenna_driver, inplace / 2, antenna_exponent);
+    let mut gate_16 = [0u16; 1];
+    let mut antenna_16 = [0u16; 1];
+    let none_16 = [0u16; 1];
+    let mut gate_32 = [0u32; 1];
+    let mut antenna_32 = [0u32; 1];
+    let none_32 = [0u32; 1];
+    let left = trial(
+        gate,
+        antenna,
+        gate_read,
+        &mut gate_16,
+        &mut gate_32,
+        gate_write,
+        &none_16,
+        &none_32,
+        antenna_read,
+        &mut antenna_16,
+        &mut antenna_32,
+        antenna_write,
+        &none_16,
+        &none_32,
+        events,
+    );
+    let gate_end = left.gate;
+    let antenna_end = left.antenna;
+    show(gate_end, antenna_end, state);
+    left.number
+}
+
+#[no_mangle]
+pub extern "C" fn lpspi_trial_u16(
+    gate_driver: u32,
+    antenna_driver: u32,
+    inplace: u32,
+    gate_exponent: usize,
+    antenna_exponent: usize,
+    gate_read: &mut [u16],
+    gate_write: &[u16],
+    antenna_read: &mut [u16],
+    antenna_write: &[u16],
+    events: &[u8],
+    state: &mut [u32],
+) -> u32
+    ensures { λ r. ⌜ hostTrial r (now («gate_read» .exit)) (now («antenna_read» .exit)) (now (state .exit)) ≡ trialBy U16 «gate_driver» «antenna_driver» inplace «gate_exponent» «antenna_exponent» (now («gate_read» .entry)) (now («gate_write» .entry)) (now («antenna_read» .entry)) (now («antenna_write» .entry)) (now (events .entry)) (now (state .entry)) ⌝ }
+{
+    let gate = board(Width::U16, gate_driver, inplace, gate_exponent);
+    let antenna = board(Width::U16, antenna_driver, inplace / 2, antenna_exponent);
+    let mut gate_8 = [0u8; 1];
+    let mut antenna_8 = [0u8; 1];
+    let none_8 = [0u8; 1];
+    let mut gate_32 = [0u32; 1];
+    let mut antenna_32 = [0u32; 1];
+    let none_32 = [0u32; 1];
+    let left = trial(
+        gate,
+        antenna,
+        &mut gate_8,
+        gate_read,
+        &mut gate_32,
+        &none_8,
+        gate_write,
+        &none_32,
+        &mut antenna_8,
+        antenna_read,
+        &mut antenna_32,
+        &none_8,
+        antenna_write,
+        &none_32,
+        events,
+    );
+    let gate_end = left.gate;
+    let antenna_end = left.antenna;
+    show(gate_end, antenna_end, state);
+    left.number
+}
+
+#[no_mangle]
+pub extern "C" fn lpspi_trial_u32(
+    gate_driver: u32,
+    antenna_driver: u32,
+    inplace: u32,
+    gate_exponent: usize,
+    antenna_exponent: usize,
+    gate_read: &mut [u32],
+    gate_write: &[u32],
+    antenna_read: &mut [u32],
+    antenna_write: &[u32],
+    events: &[u8],
+    state: &mut [u32],
+) -> u32
+    ensures { λ r. ⌜ hostTrial r (now («gate_read» .exit)) (now («antenna_read» .exit)) (now (state .exit)) ≡ trialBy U32 «gate_driver» «antenna_driver» inplace «gate_exponent» «antenna_exponent» (now («gate_read» .entry)) (now («gate_write» .entry)) (now («antenna_read» .entry)) (now («antenna_write» .entry)) (now (events .entry)) (now (state .entry)) ⌝ }
+{
+    let gate = board(Width::U32, gate_driver, inplace, gate_exponent);
+    let antenna = board(Width::U32, antenna_driver, inplace / 2, antenna_exponent);
+    let mut gate_8 = [0u8; 1];
+    let mut antenna_8 = [0u8; 1];
+    let none_8 = [0u8; 1];
+    let mut gate_16 = [0u16; 1];
+    let mut antenna_16 = [0u16; 1];
+    let none_16 = [0u16; 1];
+    let left = trial(
+        gate,
+        antenna,
+        &mut gate_8,
+        &mut gate_16,
+        gate_read,
+        &none_8,
+        &none_16,
+        gate_write,
+        &mut antenna_8,
+        &mut antenna_16,
+        antenna_read,
+        &none_8,
+        &none_16,
+        antenna_write,
+        events,
+    );
+    let gate_end = left.gate;
+    let antenna_end = left.antenna;
+    show(gate_end, antenna_end, state);
+    left.number
+}

@@ -1,0 +1,76 @@
+//! Trials of the port: lists of events on the bus.
+
+use crate::timing::wanted;
+use lpspi_host::{trial, Board, Driver, Trial};
+use std::hint::black_box;
+use std::time::{Duration, Instant};
+
+const BYTES: usize = 512;
+const WORDS: usize = BYTES / 4;
+const EXPONENT: usize = 4;
+const ROUNDS: u32 = 30;
+
+// Events.
+const STEPS: [u8; 4] = [0, 2, 1, 3];
+const CLOCK: u8 = 4;
+
+pub fn time() {
+    println!(
+        "Trials of {BYTES} bytes each way: ms per list and million events a second, best of {ROUNDS} rounds."
+    );
+    println!("{:<40} {:>9} {:>9} {:>9}", "", "events", "ms", "rate");
+    // Between two clocks both ends poll.
+    for events in [1_000_000, 500_000] {
+        job(&format!("bus, {events} events"), &list(events));
+    }
+    job("bus, 512 bytes as fast as it goes", &list(21 * WORDS));
+}
+
+/// A list of so many events that keeps both ends going: turns, with clocks at even
+/// distances, and a last part for the flushes.
+fn list(events: usize) -> Vec<u8> {
+    let distance = events / (WORDS + 2);
+    let event = |place: usize| match place % distance {
+        0 if place > 0 => CLOCK,
+        _ => STEPS[place % 4],
+    };
+    (0..events).map(event).collect()
+}
+
+fn job(name: &str, events: &[u8]) {
+    if !wanted(name) {
+        return;
+    }
+    let bytes = |factor: usize| (0..BYTES).map(|i| (i * factor) as u8).collect();
+    let writes: [Vec<u8>; 2] = [bytes(37), bytes(59)];
+    let mut reads = [vec![0; BYTES], vec![0; BYTES]];
+
+    let mut best = Duration::MAX;
+    for _ in 0..ROUNDS {
+        let start = Instant::now();
+        let left = run(black_box(&mut reads), black_box(&writes), black_box(events));
+        best = best.min(start.elapsed());
+        let numbers = left.ends.map(|end| [end[0], end[1]]);
+        assert_eq!(numbers, [[0; 2]; 2], "{name}: both ends have Ok twice");
+    }
+    assert_eq!([&reads[1], &reads[0]], [&writes[0], &writes[1]], "{name}");
+
+    let ms = 1e3 * best.as_secs_f64();
+    let rate = events.len() as f64 / 1e3 / ms;
+    println!("{name:<40} {:>9} {ms:>9.3} {rate:>9.1}", events.len());
+}
+
+fn run(reads: &mut [Vec<u8>; 2], writes: &[Vec<u8>; 2], events: &[u8]) -> Trial {
+    let [gate, antenna] = reads;
+    trial(board(gate, &writes[0]), board(antenna, &writes[1]), events)
+}
+
+fn board<'a>(read: &'a mut [u8], write: &'a [u8]) -> Board<'a, u8> {
+    Board {
+        driver: Driver::default(),
+        in_place: false,
+        exponent: EXPONENT,
+        read,
+        write,
+    }
+}
