@@ -73,7 +73,7 @@ pub fn enqueue_data(
 /// Places a command of that frame size, with the driver's order, mode and chip
 /// select, into the transmit FIFO.
 ///
-/// The frame size is checked first, before the limits.
+/// The limits are checked first, then the frame size.
 #[inline]
 pub fn enqueue_transaction(
     driver: Driver,

@@ -29,7 +29,7 @@ impl Driver {
             | self.sckdiv as u32
     }
 
-    /// The driver of a number. Higher bits do not count.
+    /// The driver of a number. Higher bits do not count; runs leave them as found.
     #[inline]
     pub const fn of_number(number: u32) -> Self {
         let bit_order = match number >> 20 & 1 {

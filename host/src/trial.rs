@@ -28,6 +28,7 @@ pub struct Trial {
     /// The state of the gate and of the antenna: the result numbers of its transfer and
     /// its flush, or 255; the flags T and R; the counts of words to be sent and received;
     /// 16 places for the words of each; the 30 registers by their offset divided by 4.
+    /// All 0 where the boards make no pair.
     pub ends: [[u32; END_STATE]; 2],
 }
 

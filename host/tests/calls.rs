@@ -343,9 +343,17 @@ fn commands_by_frame_size() {
     check(run, log, "", "4 0 0 1EB2C3");
     let run = enqueue_transaction(DRIVER, 40, 41, &[], log);
     check(run, log, "", "5 0 0 1EB2C3");
-    for (frame_size, budget) in [(0, 20), (7, 20), (33, 0), (4097, 41), (65_544, 8_001)] {
+    // The limits come first.
+    for (frame_size, budget, ending) in [
+        (0, 20, "1 0 0 1EB2C3"),
+        (7, 20, "1 0 0 1EB2C3"),
+        (33, 0, "1 0 0 1EB2C3"),
+        (65_544, 40, "1 0 0 1EB2C3"),
+        (0, 8_001, "5 0 0 1EB2C3"),
+        (4_097, 41, "5 0 0 1EB2C3"),
+    ] {
         let run = enqueue_transaction(DRIVER, frame_size, budget, &[], log);
-        check(run, log, "", "1 0 0 1EB2C3");
+        check(run, log, "", ending);
     }
 }
 

@@ -4,6 +4,7 @@ mod common;
 
 use common::buslog::{example_output, printed};
 use common::run::{found, Left, EXAMPLE_SCRIPT};
+use common::Random;
 use lpspi_host::{exchange_separate, flush, raw, Driver, Element, Run};
 use std::fmt::Debug;
 
@@ -58,18 +59,16 @@ fn ready_runs_make_4_and_8n_accesses() {
     }
 }
 
-/// A driver number with higher bits, which do not count.
-const DRIVER: u32 = 0xFFF6_B2C3;
-
 /// The number and counts of an exchange that leaves its read buffer and its driver
-/// as found. The counts stand at another value before.
+/// as found, of which any word may be given. The counts stand at another value before.
 fn without_accesses<W: Element + PartialEq + Debug>(
+    word: u32,
     (read, write): (&[W], &[W]),
     budget: usize,
     script: &[u32],
     log: &mut [u32],
 ) -> (u32, usize, usize) {
-    let (mut driver, mut accesses, mut answers) = (DRIVER, 7, 7);
+    let (mut driver, mut accesses, mut answers) = (word, 7, 7);
     let mut given = read.to_vec();
     let number = raw::transfer(
         0,
@@ -83,13 +82,14 @@ fn without_accesses<W: Element + PartialEq + Debug>(
         &mut answers,
     );
     assert_eq!(given, read);
-    assert_eq!(driver, DRIVER & 0x1F_FFFF);
+    assert_eq!(driver, word);
     (number, accesses, answers)
 }
 
 /// Numbers 5 and 1 and the empty transfer leave all as found, in this order.
 #[test]
 fn runs_without_accesses() {
+    let mut random = Random::new("runs_without_accesses");
     let script = all_ready(128);
     let cases = [
         // budget, log length, elements read and written, number
@@ -110,22 +110,23 @@ fn runs_without_accesses() {
         let case = format!("budget {budget}, log {log_len}, read {read_len}, write {write_len}");
         let mut log = found(log_len);
         let bytes = (&vec![0x5Au8; read_len][..], &vec![0xA5u8; write_len][..]);
-        let given = without_accesses(bytes, budget, &script, &mut log);
+        let given = without_accesses(random.word(), bytes, budget, &script, &mut log);
         assert_eq!(given, (number, 0, 0), "{case}");
 
         // The same number of words, in buffers half and a quarter as long.
         let (read_len, write_len) = (read_len.div_ceil(2), write_len.div_ceil(2));
         let halves = (&vec![0x5Au16; read_len][..], &vec![0xA5u16; write_len][..]);
-        let given = without_accesses(halves, budget, &script, &mut log);
+        let given = without_accesses(random.word(), halves, budget, &script, &mut log);
         assert_eq!(given, (number, 0, 0), "{case}");
 
         let (read_len, write_len) = (read_len.div_ceil(2), write_len.div_ceil(2));
         let words = (&vec![0x5Au32; read_len][..], &vec![0xA5u32; write_len][..]);
-        let given = without_accesses(words, budget, &script, &mut log);
+        let given = without_accesses(random.word(), words, budget, &script, &mut log);
         assert_eq!(given, (number, 0, 0), "{case}");
 
         if number == 5 {
-            let (mut driver, mut accesses, mut answers) = (DRIVER, 7, 7);
+            let word = random.word();
+            let (mut driver, mut accesses, mut answers) = (word, 7, 7);
             let given = raw::flush(
                 &mut driver,
                 budget,
@@ -135,9 +136,54 @@ fn runs_without_accesses() {
                 &mut answers,
             );
             assert_eq!((given, accesses, answers), (5, 0, 0), "{case}");
-            assert_eq!(driver, DRIVER & 0x1F_FFFF, "{case}");
+            assert_eq!(driver, word, "{case}");
         }
         assert_eq!(log, found(log_len), "{case}");
+    }
+}
+
+/// Bits 31..21 of a driver word are as found after every call; after one that is
+/// refused, or that changes no setting of the driver, all are.
+#[test]
+fn the_word_of_the_driver() {
+    let mut random = Random::new("the_word_of_the_driver");
+    let cases = [
+        // function, kind, parameters, budget, number, the word's last bits if they change
+        (0, 0, [0, 0], 8_001, 5, None),
+        (0, 1, [0, 0], 41, 5, None),
+        (0, 2, [0, 0], 41, 5, None),
+        (0, 2, [0, 0], 0, 4, Some(0)),
+        (0, 2, [0, 0], 40, 0, Some(0)),
+        (1, 4, [7, 0], 8_001, 5, None),
+        (1, 4, [7, 0], 40, 1, None),
+        (1, 4, [8, 0], 40, 0, None),
+        (2, 0, [0, 1], 41, 5, None),
+        (2, 0, [0, 1], 40, 6, None),
+        (2, 0, [1, 0], 40, 6, None),
+        (2, 1, [0x1234_5678, 0], 40, 0, Some(0x5678)),
+        (3, 2, [0, 0], 41, 5, None),
+        (3, 1, [0, 0], 40, 0, None),
+        (3, 5, [0, 0], 40, 0, None),
+    ];
+    for case in cases {
+        let (function, kind, [a, b], budget, number, last) = case;
+        let (word, script, mut log) = (random.word(), [0; 40], found(80));
+        let (mut driver, mut made, mut used, mut value) = (word, 7, 7, 7);
+        let (d, l, m, n) = (&mut driver, &mut log[..], &mut made, &mut used);
+        let given = match function {
+            0 => raw::reset(kind, d, budget, &script, l, m, n),
+            1 => raw::set(kind, a, d, budget, &script, l, m, n),
+            2 => raw::disabled(kind, a, b, d, budget, &script, l, m, n),
+            _ => raw::get(kind, a, b, d, budget, &script, l, m, n, &mut value),
+        };
+        assert_eq!(given, number, "{case:?}");
+        let expected = match last {
+            // `init` starts anew; a clock changes the cache only.
+            Some(0) => word & !0x1F_FFFF,
+            Some(cache) => word & !0xFFFF | cache,
+            None => word,
+        };
+        assert_eq!(driver, expected, "{case:?}");
     }
 }
 

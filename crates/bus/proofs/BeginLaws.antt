@@ -3,7 +3,6 @@
 use Prim.Native.Nat.{ℕ, _*_, _<_, _≤_}
 use mathlib.Core.Bool.{Bool, true, false, cond, not}
 use mathlib.Core.Path.{_≡_, refl, sym, ap, ap₂, _∙_}
-use native.Mathlib.Omega.{arith}
 use lib.Dec.{eqb}
 use lib.ListN.{length}
 use borrow.Author.Tests.{lt-ltb, le-ltb, eq-eqb, ne-eqb}
@@ -13,55 +12,40 @@ use Rattle.words.specs.declared.transaction.Transaction.{Transaction}
 use Rattle.words.specs.declared.transaction.TransactionResult.{TransactionResult}
 use Rattle.words.specs.declared.transaction.TransactionResult.the-variants.{Ok as Made, Err as Refused}
 use Rattle.words.specs.declared.width.Width.{Width}
-use Rattle.words.specs.declared.width.Width.the-variants.{U8, U16, U32}
 use Rattle.words.specs.Buffer.{wordCount}
 use Rattle.words.specs.Command.{commandAnswer, frameAccepted, framed, lsbfOf}
 use Rattle.words.specs.Width.{widthBits}
-use Rattle.words.proofs.CommandLaws.{accepted-word, refused-size, refused-long}
-use Rattle.machine.specs.declared.access.Ending.the-variants.{Ok, Err}
-use Rattle.machine.specs.declared.driver.Lpspi.{Lpspi}
+use Rattle.words.proofs.CommandLaws.{accepted-word, refused-size}
+use Rattle.sequences.specs.declared.access.Ending.the-variants.{Ok, Err}
+use Rattle.sequences.specs.declared.driver.Lpspi.{Lpspi}
 use Rattle.machine.specs.declared.transfer.Transfer.{Transfer}
-use Rattle.machine.specs.Driver.{driverCommand}
+use Rattle.sequences.specs.Driver.{driverCommand}
 use Rattle.machine.specs.Transfer.{startTransfer, endedTransfer}
 use Rattle.transfers.specs.Transfers.{begun, separatePlan, inPlacePlan}
 use Rattle.bus.specs.declared.board.Board.{Board}
-use Rattle.bus.specs.Start.{Start, bits, total, unfit, transferOf}
-use Rattle.bus.specs.Begin.{totalBy, begunBy, unfitBy}
+use Rattle.bus.specs.Start.{unfitBy, Start, elementBits, total, transferOf}
+use Rattle.bus.specs.Begin.{totalBy, begunBy}
 
 pub total-is : (s : Start) → total s ≡ totalBy (s .board .inplace) (length (s .read)) (length (s .write))
 total-is s = by-place (s .board .inplace)
   where
     by-place : (b : Bool)
-        → cond b (inPlacePlan (bits s) (s .board .driver) (s .read)) (separatePlan (bits s) (s .board .driver) (s .read) (s .write)) .total
+        → cond b (inPlacePlan (elementBits s) (s .board .driver) (s .read)) (separatePlan (elementBits s) (s .board .driver) (s .read) (s .write)) .total
         ≡ totalBy b (length (s .read)) (length (s .write))
     by-place true = refl
     by-place false = refl
 
-pub begun-is : (s : Start) → transferOf s ≡ begunBy (bits s) (s .board .driver) (total s)
+pub begun-is : (s : Start) → transferOf s ≡ begunBy (elementBits s) (s .board .driver) (total s)
 begun-is s = by-place (s .board .inplace)
   where
     by-place : (b : Bool)
-        → begun (bits s) (s .board .driver) (cond b (inPlacePlan (bits s) (s .board .driver) (s .read)) (separatePlan (bits s) (s .board .driver) (s .read) (s .write)))
-        ≡ begunBy (bits s) (s .board .driver)
-        (cond b (inPlacePlan (bits s) (s .board .driver) (s .read)) (separatePlan (bits s) (s .board .driver) (s .read) (s .write)) .total)
+        → begun (elementBits s) (s .board .driver) (cond b (inPlacePlan (elementBits s) (s .board .driver) (s .read)) (separatePlan (elementBits s) (s .board .driver) (s .read) (s .write)))
+        ≡ begunBy (elementBits s) (s .board .driver)
+        (cond b (inPlacePlan (elementBits s) (s .board .driver) (s .read)) (separatePlan (elementBits s) (s .board .driver) (s .read) (s .write)) .total)
     by-place true = refl
     by-place false = refl
 
-pub unfit-is : (g a : Start) → unfit g a ≡ unfitBy (g .board) (a .board) (total g) (total a)
-unfit-is g a = refl
-
 -- THE START OF A TRANSFER
-
--- the frame size of 512 elements fits 16 bits
-pub frame-fits : (x : Width) {k : ℕ} (len : ℕ) → k ≡ widthBits x → len ≤ 512 → k * len ≤ 16384
-frame-fits U8 len e h = rw e (omega arith)
-frame-fits U16 len e h = rw e (omega arith)
-frame-fits U32 len e h = rw e (omega arith)
-
-long : (x : Width) (len : ℕ) → 512 < len → 4096 < widthBits x * len
-long U8 len h = omega arith
-long U16 len h = omega arith
-long U32 len h = omega arith
 
 module _ (x : Width) (d : Lpspi) (len : ℕ) {r : Transfer} where
   pub start-empty : len ≡ 0 → r ≡ endedTransfer d Ok → r ≡ begunBy (widthBits x) d len
@@ -71,18 +55,14 @@ module _ (x : Width) (d : Lpspi) (len : ℕ) {r : Transfer} where
     refused : frameAccepted (widthBits x * len) ≡ false → r ≡ endedTransfer d (Err FrameSize) → r ≡ begunBy (widthBits x) d len
     refused a er = er ∙ rw (ne-eqb len 0 some, a)
 
-    pub start-long : 512 < len → r ≡ endedTransfer d (Err FrameSize) → r ≡ begunBy (widthBits x) d len
-    start-long h er = refused (refused-long (widthBits x * len) (long x len h)) er
-
-    -- k is the count of bits that the code has
-    module _ {k : ℕ} (ek : k ≡ widthBits x) {t : TransactionResult} (ec : commandAnswer t ≡ framed (k * len)) where
+    module _ {t : TransactionResult} (ec : commandAnswer t ≡ framed (widthBits x * len)) where
       pub start-refused : (u : LpspiError) → t ≡ Refused u → r ≡ endedTransfer d (Err FrameSize) → r ≡ begunBy (widthBits x) d len
-      start-refused u eu er = refused (refused-size (widthBits x * len) u (ap commandAnswer (sym eu) ∙ ec ∙ ap (λ (n : ℕ). framed (n * len)) ek)) er
+      start-refused u eu er = refused (refused-size (widthBits x * len) u (ap commandAnswer (sym eu) ∙ ec)) er
 
       pub start-made : (u : Transaction) → t ≡ Made u → {n : ℕ} → n ≡ wordCount (widthBits x) len → {command : ℕ} → command ≡ driverCommand d (u .0) → r ≡ startTransfer d command n n
           → r ≡ begunBy (widthBits x) d len
       start-made u eu {n = n} en {command = command} c er =
-          let a = accepted-word (widthBits x * len) u (ap commandAnswer (sym eu) ∙ ec ∙ ap (λ (n : ℕ). framed (n * len)) ek) in
+          let a = accepted-word (widthBits x * len) u (ap commandAnswer (sym eu) ∙ ec) in
           er ∙ ap₂ (λ (w m : ℕ). startTransfer d w m m) (c ∙ ap (driverCommand d) (a .1)) en ∙ rw (ne-eqb len 0 some, a .0)
 
 -- THE PAIR'S REFUSAL: m and n are the total lengths; `wg`, `wa`, `og`, `oa` are the bits and the orders that the code has

@@ -1,8 +1,8 @@
 -- The course of an end: over every list of events its accesses are those of its transfer's run, and then of its flush's, on the answers it has had.
 -- It holds for any two boards, also those that do not fit.
 -- Assumes nothing.
-use Prim.Native.Nat.{ℕ, _+_, _<_}
-use mathlib.Core.Bool.{Bool, true, false}
+use Prim.Native.Nat.{ℕ, zero, suc, _+_, _<_}
+use mathlib.Core.Bool.{Bool, true, false, cond}
 use mathlib.Core.List.{List, [], _∷_, _++_, append-nil, append-assoc}
 use mathlib.Core.Path.{_≡_, refl, sym, ap, _∙_}
 use native.Mathlib.Nat.{add-zero}
@@ -13,21 +13,23 @@ use borrow.Author.Tests.{lt-ltb, le-ltb, lt-leb}
 use Rattle.manual.specs.declared.Register.{Register}
 use Rattle.manual.specs.declared.Register.the-variants.{PARAM, CR, SR, IER, DER, CFGR0, CFGR1, DMR0, DMR1, CCR, FCR, FSR, TCR, TDR, RSR, RDR}
 use Rattle.manual.specs.Manual.{offsetOf}
-use Rattle.machine.specs.declared.access.Access.{Access}
-use Rattle.machine.specs.declared.access.Access.the-variants.{Read, Write, Send, Receive, Done}
-use Rattle.machine.specs.declared.access.Ending.{Ending}
+use Rattle.sequences.specs.declared.access.Access.{Access}
+use Rattle.sequences.specs.declared.access.Access.the-variants.{Read, Write, Send, Receive, Done}
+use Rattle.sequences.specs.declared.access.Ending.{Ending}
 use Rattle.machine.specs.declared.flush.Flush.{Flush}
 use Rattle.machine.specs.declared.flush.Flush.the-variants.{Status, Sizes, Counts, Ended as Flushed}
-use Rattle.machine.specs.declared.sequence.Sequence.{Sequence}
-use Rattle.machine.specs.declared.transfer.Phase.{Phase}
-use Rattle.machine.specs.declared.transfer.Phase.the-variants.{Ended}
+use Rattle.sequences.specs.declared.sequence.Sequence.{Sequence}
+use Rattle.machine.specs.declared.transfer.Stage.{Stage}
+use Rattle.machine.specs.declared.transfer.Stage.the-variants.{Ended}
 use Rattle.machine.specs.declared.transfer.Transfer.{Transfer}
 use Rattle.machine.specs.declared.transfer.Work.{Work}
 use Rattle.machine.specs.Flush.{flushAccess, flushed}
 use Rattle.machine.specs.Transfer.{at, dueAccess, resumed}
-use Rattle.runs.specs.Run.{Logged, answerOf, receivedAfter, ended, State, start, times, afterAccess, step, run, noWords}
+use Rattle.runs.specs.Run.{Logged, answerOf, receivedAfter, ended, halted, State, start, times, afterAccess, step, run, noWords}
+use Rattle.runs.specs.Unlimited.{Unlimited}
 use Rattle.runs.proofs.Places.{done-phase}
-use Rattle.runs.proofs.RunLaws.{run-last}
+use Rattle.runs.proofs.RunLaws.{run-add, run-last}
+use Rattle.runs.proofs.RunUnlimited.{unlimited-run}
 use Rattle.runs.proofs.RunDepends.{run-longer}
 use Rattle.bus.specs.declared.event.Event.{Event}
 use Rattle.bus.specs.declared.event.Event.the-variants.{Step, Clock, Noise}
@@ -36,7 +38,7 @@ use Rattle.bus.specs.declared.event.Side.the-variants.{Gate, Antenna}
 use Rattle.bus.specs.Start.{Start, Job, job, transferOf}
 use Rattle.bus.specs.End.{Wire, End, end, firstDue, endAccess, freshEnd, stepped}
 use Rattle.bus.specs.Events.{Pair, atSide, clockedBy, happened, after, freshPair}
-use Rattle.bus.specs.Course.{entry, accessed, heardBy, logOf, answerIn, answersIn, Makes, Course, startOf, CourseOf}
+use Rattle.bus.specs.Course.{entry, accessed, heardBy, logOf, answerIn, answersIn, Makes, Course, startAt, CourseOf}
 
 -- THE ANSWERS IN A LOG
 
@@ -108,13 +110,45 @@ module _ {M : Type 0} (next : M → Access) (resume : M → ℕ → M) (words : 
       ∙ k)
       ∙ step-makes a v m xs log rs e h)
 
+-- NO LIMIT ON ACCESSES
+module _ {M : Type 0} (next : M → Access) (resume : M → ℕ → M) (words : List ℕ → ℕ → ℕ) where
+  -- a run only adds to its log
+  abbrev Adds : State M → State M → Type 0
+  Adds s u = (rest : List Logged) × (u .log ≡ s .log ++ rest)
+
+  step-adds : (script : List ℕ) (s : State M) → Adds s (step next resume words script s)
+  unfolding step afterAccess
+  step-adds script s = by-test (halted (next (s .machine)) (s .used) (length script))
+    where
+      by-test : (b : Bool) → Adds s (cond b s (afterAccess next resume words script (next (s .machine)) s))
+      by-test true = ([], sym (append-nil (s .log)))
+      by-test false = (_, refl)
+
+  run-adds : (script : List ℕ) (n : ℕ) (s : State M) → Adds s (run next resume words script n s)
+  unfolding times
+  run-adds script zero s = ([], sym (append-nil (s .log)))
+  run-adds script (suc n) s =
+      let k = step-adds script s in
+      let l = run-adds script n (step next resume words script s) in
+      (k .0 ++ l .0, l .1 ∙ ap (λ (x : List Logged). x ++ l .0) (k .1) ∙ append-assoc (s .log) (k .0) (l .0))
+
+  -- a run that made the accesses of a log is the beginning of the one with no limit on accesses (`Unlimited`), on the same answers
+  pub makes-begins : (m m′ : M) (log : List Logged) (rs : List ℕ) (u : State M) → Makes next resume words m log m′ rs → Unlimited next resume words (answersIn log) (start m) u
+      → (rest : List Logged) × (u .log ≡ log ++ rest)
+  makes-begins m m′ log rs u made h =
+      let script = answersIn log in
+      let k = run-adds script (h .accesses) (run next resume words script (length log) (start m)) in
+      let all : run next resume words script (length log + h .accesses) (start m) ≡ u =
+      unlimited-run next resume words script (start m) u h (length log + h .accesses) (omega arith) in
+      (k .0, ap (λ (s : State M). s .log) (sym all ∙ run-add next resume words script (length log) (h .accesses) (start m)) ∙ k .1 ∙ ap (λ (s : State M). s .log ++ k .0) made)
+
 -- WHAT HAS ENDED STAYS
 
 transfer-stays : (t : Transfer) (v : ℕ) → ended (dueAccess t) ≡ true → resumed t v ≡ t
 unfolding resumed
 transfer-stays t v h = by-due (dueAccess t) refl h
   where
-    by-phase : (p : Phase) (w : Work) (r : Sequence) (x : Ending) → p ≡ Ended x → resumed (at p w r) v ≡ at p w r
+    by-phase : (p : Stage) (w : Work) (r : Sequence) (x : Ending) → p ≡ Ended x → resumed (at p w r) v ≡ at p w r
     by-phase p w r x e = rw e
 
     by-due : (a : Access) → dueAccess t ≡ a → ended a ≡ true → resumed t v ≡ t
@@ -230,7 +264,7 @@ fresh-course s = record { transferLog = []; flushLog = []; parts = refl; transfe
 -- A LIST OF EVENTS, of either end
 module _ (g a : Start) (t : Transfer) where
   abbrev OnCourse : Side → Pair → List Logged → Type 0
-  OnCourse s p log = Course (job (startOf s g a)) t (atSide s p) log
+  OnCourse s p log = Course (job (startAt s g a)) t (atSide s p) log
 
   course-clock : (s : Side) (ours theirs : List ℕ) (p : Pair) (log : List Logged) → OnCourse s p log → OnCourse s (clockedBy (job g) (job a) ours theirs p) (log ++ [])
   unfolding clockedBy

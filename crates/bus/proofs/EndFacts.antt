@@ -1,54 +1,53 @@
 -- What is known of an end after a list of events, by the phase that it is in, and that its steps keep it. `n` is the count of FIFO words each way,
 -- `other` the words that the other end started with.
 -- Assumes nothing.
-use Prim.Native.Nat.{ℕ, zero, suc, _+_, _-_, _^_, _<_, _≤_}
-use mathlib.Core.Bool.{Bool, true, false, cond, _||_, _&&_, not}
+use Prim.Native.Nat.{ℕ, suc, _+_, _^_, _<_, _≤_}
+use mathlib.Core.Bool.{Bool, true, false, cond, _||_}
 use mathlib.Core.List.{List, [], _∷_, _++_}
 use mathlib.Core.Path.{_≡_, refl, sym, ap, _∙_, subst}
-use native.Mathlib.Numerals.{add-one}
 use native.Mathlib.Omega.{arith}
-use lib.Dec.{T, eqb, ltb, leb}
+use lib.Dec.{T, eqb, ltb}
 use lib.ListN.{length, getD}
-use borrow.Author.Tests.{ltb-true, ltb-false, lt-ltb, eqb-true, lt-leb}
+use borrow.Author.Tests.{ltb-true, ltb-false, eqb-true, lt-leb}
 use Rattle.manual.specs.declared.Cr.the-variants.{RST, RTF, RRF}
 use Rattle.manual.specs.declared.Field.the-variants.{Cr, Sr, Fsr, Param}
 use Rattle.manual.specs.declared.Fsr.the-variants.{TXCOUNT, RXCOUNT}
 use Rattle.manual.specs.declared.Param.the-variants.{TXFIFO}
 use Rattle.manual.specs.declared.Register.{Register}
-use Rattle.manual.specs.declared.Register.the-variants.{PARAM, SR, FSR, TCR, TDR}
+use Rattle.manual.specs.declared.Register.the-variants.{PARAM, SR, FSR, TCR}
 use Rattle.manual.specs.declared.Sr.the-variants.{TEF, REF, MBF}
 use Rattle.manual.specs.Manual.{readField}
 use Rattle.words.specs.Buffer.{tabulate}
 use Rattle.words.specs.declared.transaction.Direction.{Direction}
 use Rattle.words.specs.declared.transaction.Direction.the-variants.{Tx, Rx}
 use Rattle.words.specs.declared.transaction.LpspiError.the-variants.{FrameSize, Fifo}
-use Rattle.machine.specs.declared.access.Access.{Access}
-use Rattle.machine.specs.declared.access.Access.the-variants.{Read, Write, Send as SendWord, Receive as ReceiveWord, Done}
-use Rattle.machine.specs.declared.access.Ending.{Ending}
-use Rattle.machine.specs.declared.access.Ending.the-variants.{Ok, Err, Stopped, Limits, ZeroClock, FifoExponent}
+use Rattle.sequences.specs.declared.access.Access.{Access}
+use Rattle.sequences.specs.declared.access.Access.the-variants.{Read, Write, Send as SendWord, Receive as ReceiveWord, Done}
+use Rattle.sequences.specs.declared.access.Ending.{Ending}
+use Rattle.sequences.specs.declared.access.Ending.the-variants.{Ok, Err, Stopped, Limits, ZeroClock, FifoExponent}
 use Rattle.machine.specs.declared.flush.Flush.{Flush}
 use Rattle.machine.specs.declared.flush.Flush.the-variants.{Status as FlushStatus, Sizes as FlushSizes, Counts as FlushCounts, Ended as Flushed}
 use Rattle.machine.specs.declared.poll.Poll.{Poll}
 use Rattle.machine.specs.declared.poll.Poll.the-variants.{Status, Sizes, Counts}
 use Rattle.machine.specs.declared.poll.Polled.{Polled}
 use Rattle.machine.specs.declared.poll.Polled.the-variants.{Failed, Next, Ready, Unready}
-use Rattle.machine.specs.declared.sequence.Sequence.{Sequence}
-use Rattle.machine.specs.declared.transfer.Phase.{Phase}
-use Rattle.machine.specs.declared.transfer.Phase.the-variants.{Space, Command, Sending, Send, Receiving, Receive, Recovery, Ended}
+use Rattle.sequences.specs.declared.sequence.Sequence.{Sequence}
+use Rattle.machine.specs.declared.transfer.Stage.{Stage}
+use Rattle.machine.specs.declared.transfer.Stage.the-variants.{Space, Command, Sending, Send, Receiving, Receive, Recovery, Ended}
 use Rattle.machine.specs.declared.transfer.Work.{Work}
 use Rattle.machine.specs.Flush.{flushAccess, flushed}
 use Rattle.machine.specs.Poll.{failed, ready}
-use Rattle.machine.specs.Recovery.{recoveryAccess, recoveryAfter, recovered}
+use Rattle.sequences.specs.Recovery.{recoveryAccess, recoveryAfter, recovered}
 use Rattle.machine.specs.Transfer.{at, sendTurn, receiveTurn, oneSent, oneReceived, counted, spaceBy, sendingBy, receivingBy, dueAccess, resumed}
 use Rattle.runs.specs.Run.{answerOf, receivedAfter, ended}
 use Rattle.runs.proofs.Places.{counted-up, done-phase}
 use Rattle.bus.specs.declared.register.Role.{Role}
 use Rattle.bus.specs.declared.register.Role.the-variants.{Sizes as sizes, Status as status, Counts as counts, Control as control, Sends as sends, Receives as receives, Holds as holds}
 use Rattle.bus.specs.Start.{Job}
-use Rattle.bus.specs.End.{Wire, queues, raised, lowered, full, sentInto, front, behind, emptiedIf, roleOf, placeOf, showsBy, shows, readBy, writtenBy, answerTo, wireAfter, registersAfter, freshWire, End, end, firstDue, endAccess, afterAccess, stepped}
-use Rattle.bus.specs.Tally.{Tally, none, overrun, overrunBy}
+use Rattle.bus.specs.End.{Wire, queues, lowered, full, front, behind, emptiedIf, roleOf, placeOf, shows, readBy, writtenBy, answerTo, wireAfter, freshWire, End, end, firstDue, endAccess, stepped}
+use Rattle.bus.specs.Tally.{Tally, nothing, overrun, overrunBy}
 use Rattle.bus.specs.Agreement.{OkTwice, Emptied, seen}
-use Rattle.bus.proofs.ShownLaws.{shows-t, shows-r, shows-busy, shows-exponent, shows-transmit, shows-receive, below-depth, depth-small}
+use Rattle.bus.proofs.ShownLaws.{shows-t, shows-r, shows-exponent, shows-transmit, shows-receive, below-capacity, capacity-small}
 use Rattle.bus.proofs.WordLists.{from, length-snoc, snoc-is, uncons, length-behind, emptied-less, emptied-is, lowered-set, false-true, nil-of, all-from}
 use Rattle.bus.proofs.RecoveryFacts.{silent, Quiet, recovery-quiet}
 
@@ -125,7 +124,7 @@ module _ (n : ℕ) (accepts : Bool) (j : Job) (other : ℕ → ℕ) where
   NowFlush (Flushed FifoExponent) t c m τ k rs w = ⊥
 
   -- what is known in each phase
-  abbrev pub Now : Phase → Flush → ℕ → ℕ → ℕ → Tally → Work → List ℕ → Wire → Type 0
+  abbrev pub Now : Stage → Flush → ℕ → ℕ → ℕ → Tally → Work → List ℕ → Wire → Type 0
   Now (Space q) f t c m τ k rs w = Core t c m τ k rs w × (f ≡ FlushStatus) × Asked q × (k .sent < n) × (k .sent ≡ 0)
   Now Command f t c m τ k rs w = Core t c m τ k rs w × (f ≡ FlushStatus) × (k .sent < n)
   Now (Sending q) f t c m τ k rs w = Core t c m τ k rs w × (f ≡ FlushStatus) × Asked q × (k .sent < n)
@@ -184,14 +183,14 @@ module _ (n : ℕ) (accepts : Bool) (j : Job) (other : ℕ → ℕ) where
   not-full queue h = lt-leb (2 ^ j .exponent) (length queue) h
 
   module _ (small-e : j .exponent ≤ 4) (keeps : Keeps j) (c m : ℕ) (τ : Tally) where
-    abbrev At : Phase → Flush → Work → List ℕ → Wire → Type 0
+    abbrev At : Stage → Flush → Work → List ℕ → Wire → Type 0
     At p f k rs w = Now p f c c m τ k rs w
 
-    now-cond : (y : Bool) (p q : Phase) (f : Flush) (k : Work) (rs : List ℕ) (w : Wire) → (y ≡ true → At p f k rs w) → (y ≡ false → At q f k rs w) → At (cond y p q) f k rs w
+    now-cond : (y : Bool) (p q : Stage) (f : Flush) (k : Work) (rs : List ℕ) (w : Wire) → (y ≡ true → At p f k rs w) → (y ≡ false → At q f k rs w) → At (cond y p q) f k rs w
     now-cond true p q f k rs w g h = g refl
     now-cond false p q f k rs w g h = h refl
 
-    now-polled : (F : Polled → Phase) (y : Bool) (p q : Polled) (f : Flush) (k : Work) (rs : List ℕ) (w : Wire) → (y ≡ true → At (F p) f k rs w) → (y ≡ false → At (F q) f k rs w)
+    now-polled : (F : Polled → Stage) (y : Bool) (p q : Polled) (f : Flush) (k : Work) (rs : List ℕ) (w : Wire) → (y ≡ true → At (F p) f k rs w) → (y ≡ false → At (F q) f k rs w)
         → At (F (cond y p q)) f k rs w
     now-polled F true p q f k rs w g h = g refl
     now-polled F false p q f k rs w g h = h refl
@@ -245,7 +244,7 @@ module _ (n : ℕ) (accepts : Bool) (j : Job) (other : ℕ → ℕ) where
         let one = length-snoc (w .transmit) (j .words rs (k .sent)) in
         record {
           small = B .small;
-          capT = omega (arith, one, below-depth (j .exponent));
+          capT = omega (arith, one, below-capacity (j .exponent));
           capR = B .capR;
           room = omega (arith, one, x .outEq);
           txIs = λ h.
@@ -343,10 +342,10 @@ module _ (n : ℕ) (accepts : Bool) (j : Job) (other : ℕ → ℕ) where
     shown-r busy w g = shows-r (j .exponent) busy w (getD g (placeOf SR) 0)
 
     pub shown-transmit : (busy : Bool) (w : Wire) (g : List ℕ) → Base c τ w → readField (Fsr TXCOUNT) (shows (j .exponent) busy w g FSR) ≡ length (w .transmit)
-    shown-transmit busy w g B = shows-transmit (j .exponent) busy w (getD g (placeOf FSR) 0) (omega (arith, B .capT, depth-small (j .exponent) small-e))
+    shown-transmit busy w g B = shows-transmit (j .exponent) busy w (getD g (placeOf FSR) 0) (omega (arith, B .capT, capacity-small (j .exponent) small-e))
 
     pub shown-receive : (busy : Bool) (w : Wire) (g : List ℕ) → Base c τ w → readField (Fsr RXCOUNT) (shows (j .exponent) busy w g FSR) ≡ length (w .receive)
-    shown-receive busy w g B = shows-receive (j .exponent) busy w (getD g (placeOf FSR) 0) (omega (arith, B .capR, depth-small (j .exponent) small-e))
+    shown-receive busy w g B = shows-receive (j .exponent) busy w (getD g (placeOf FSR) 0) (omega (arith, B .capR, capacity-small (j .exponent) small-e))
 
     keep-flush : (busy : Bool) (k : Work) (q : Sequence) (f : Flush) (rs : List ℕ) (w : Wire) (g : List ℕ) → Base c τ w → NowFlush f c c m τ k rs w
         → Good c c m τ (stepped j busy (end (at (Ended Ok) k q) f rs w g))
@@ -391,7 +390,7 @@ module _ (n : ℕ) (accepts : Bool) (j : Job) (other : ℕ → ℕ) where
           (wireAfter (j .exponent) (j .words rs) a w) (λ h. N) (λ h. N);
     }
 
-    pub keep-step : (busy : Bool) (p : Phase) (k : Work) (q : Sequence) (f : Flush) (rs : List ℕ) (w : Wire) (g : List ℕ) → Base c τ w → At p f k rs w
+    pub keep-step : (busy : Bool) (p : Stage) (k : Work) (q : Sequence) (f : Flush) (rs : List ℕ) (w : Wire) (g : List ℕ) → Base c τ w → At p f k rs w
         → Good c c m τ (stepped j busy (end (at p k q) f rs w g))
     unfolding stepped dueAccess resumed
     keep-step y (Space Status) k q f rs w g B N = record {
@@ -418,7 +417,7 @@ module _ (n : ℕ) (accepts : Bool) (j : Job) (other : ℕ → ℕ) where
           (λ h. now-receive-turn f k rs w (B .small) (N .1) (N .0));
     }
     keep-step y Send k q f rs w g B N =
-        rw (not-full (w .transmit) (omega (arith, below-depth (j .exponent), N .3)))
+        rw (not-full (w .transmit) (omega (arith, below-capacity (j .exponent), N .3)))
         (record {
           base = base-send k rs w (N .0) (N .2) (N .3) B;
           now = now-send-turn f (oneSent k) rs (pushed rs k w) (B .small) (N .1) (core-send k rs w (N .0) (N .2));
@@ -455,7 +454,7 @@ module _ (n : ℕ) (accepts : Bool) (j : Job) (other : ℕ → ℕ) where
   flush-fits FlushCounts w = refl
   flush-fits (Flushed x) w = refl
 
-  pub no-overrun : (t c m : ℕ) (τ : Tally) (p : Phase) (k : Work) (q : Sequence) (f : Flush) (rs : List ℕ) (w : Wire) → Now p f t c m τ k rs w
+  pub no-overrun : (t c m : ℕ) (τ : Tally) (p : Stage) (k : Work) (q : Sequence) (f : Flush) (rs : List ℕ) (w : Wire) → Now p f t c m τ k rs w
       → overrun (j .exponent) (endAccess (at p k q) f) w ≡ false
   unfolding dueAccess
   no-overrun t c m τ (Space Status) k q f rs w N = refl
@@ -465,7 +464,7 @@ module _ (n : ℕ) (accepts : Bool) (j : Job) (other : ℕ → ℕ) where
   no-overrun t c m τ (Sending Status) k q f rs w N = refl
   no-overrun t c m τ (Sending Sizes) k q f rs w N = refl
   no-overrun t c m τ (Sending (Counts v)) k q f rs w N = refl
-  no-overrun t c m τ Send k q f rs w N = not-full (w .transmit) (omega (arith, below-depth (j .exponent), N .3))
+  no-overrun t c m τ Send k q f rs w N = not-full (w .transmit) (omega (arith, below-capacity (j .exponent), N .3))
   no-overrun t c m τ (Receiving Status) k q f rs w N = refl
   no-overrun t c m τ (Receiving Sizes) k q f rs w N = refl
   no-overrun t c m τ (Receiving (Counts v)) k q f rs w N = refl
@@ -488,7 +487,7 @@ module _ (n : ℕ) (accepts : Bool) (j : Job) (other : ℕ → ℕ) where
   flush-stays (Flushed ZeroClock) g a b N = absurd N
   flush-stays (Flushed FifoExponent) g a b N = absurd N
 
-  pub now-stays : (p : Phase) (f : Flush) {t c m t′ c′ m′ : ℕ} {τ τ′ : Tally} {k : Work} {rs : List ℕ} {w w′ : Wire} → (Core t c m τ k rs w → Core t′ c′ m′ τ′ k rs w′)
+  pub now-stays : (p : Stage) (f : Flush) {t c m t′ c′ m′ : ℕ} {τ τ′ : Tally} {k : Work} {rs : List ℕ} {w w′ : Wire} → (Core t c m τ k rs w → Core t′ c′ m′ τ′ k rs w′)
       → length (w′ .transmit) ≤ length (w .transmit) → length (w .receive) ≤ length (w′ .receive) → τ .flags ≤ τ′ .flags
       → Now p f t c m τ k rs w → Now p f t′ c′ m′ τ′ k rs w′
   now-stays (Space q) f g a b d N = (g (N .0), N .1, N .2, N .3, N .4)
@@ -507,7 +506,7 @@ module _ (n : ℕ) (accepts : Bool) (j : Job) (other : ℕ → ℕ) where
   now-stays (Ended FifoExponent) f g a b d N = absurd N
 
   -- A WORD IS RECEIVED only while some are to come, in a transfer that was accepted
-  pub receives-below : (t c m : ℕ) (τ : Tally) (p : Phase) (k : Work) (q : Sequence) (f : Flush) (rs : List ℕ) (w : Wire) (i : ℕ) → Now p f t c m τ k rs w → dueAccess (at p k q) ≡ ReceiveWord i
+  pub receives-below : (t c m : ℕ) (τ : Tally) (p : Stage) (k : Work) (q : Sequence) (f : Flush) (rs : List ℕ) (w : Wire) (i : ℕ) → Now p f t c m τ k rs w → dueAccess (at p k q) ≡ ReceiveWord i
       → (accepts ≡ true) × (length rs < n)
   unfolding dueAccess
   receives-below t c m τ (Space Status) k q f rs w i N h = absurd (not-read h)
@@ -526,7 +525,7 @@ module _ (n : ℕ) (accepts : Bool) (j : Job) (other : ℕ → ℕ) where
   receives-below t c m τ (Ended x) k q f rs w i N h = absurd (not-done h)
 
   -- A WORD IS SENT only while some are to go, in a transfer that was accepted
-  pub sends-below : (t c m : ℕ) (τ : Tally) (p : Phase) (k : Work) (q : Sequence) (f : Flush) (rs : List ℕ) (w : Wire) (i : ℕ) → Now p f t c m τ k rs w → dueAccess (at p k q) ≡ SendWord i
+  pub sends-below : (t c m : ℕ) (τ : Tally) (p : Stage) (k : Work) (q : Sequence) (f : Flush) (rs : List ℕ) (w : Wire) (i : ℕ) → Now p f t c m τ k rs w → dueAccess (at p k q) ≡ SendWord i
       → (accepts ≡ true) × (i < n)
   unfolding dueAccess place
   sends-below t c m τ (Space Status) k q f rs w i N h = absurd (read-sends h)
@@ -545,7 +544,7 @@ module _ (n : ℕ) (accepts : Bool) (j : Job) (other : ℕ → ℕ) where
   sends-below t c m τ (Ended x) k q f rs w i N h = absurd (done-sends h)
 
   -- AT FRESH: empty, accepted or refused
-  pub fresh-core : (m : ℕ) (k : Work) → accepts ≡ true → k .send ≡ n → k .receive ≡ n → k .sent ≡ 0 → k .received ≡ 0 → Core 0 0 m none k [] freshWire
+  pub fresh-core : (m : ℕ) (k : Work) → accepts ≡ true → k .send ≡ n → k .receive ≡ n → k .sent ≡ 0 → k .received ≡ 0 → Core 0 0 m nothing k [] freshWire
   fresh-core m k y a b d e = record {
     yes = y;
     toSend = a;
@@ -558,7 +557,7 @@ module _ (n : ℕ) (accepts : Bool) (j : Job) (other : ℕ → ℕ) where
     gotIs = λ h h′. refl;
   }
 
-  pub fresh-base : Base 0 none freshWire
+  pub fresh-base : Base 0 nothing freshWire
   fresh-base = record {
     small = omega arith;
     capT = omega arith;
@@ -573,10 +572,10 @@ module _ (n : ℕ) (accepts : Bool) (j : Job) (other : ℕ → ℕ) where
 
   -- AN END THAT HAS HAD OK TWICE
   module _ (c m : ℕ) (τ : Tally) where
-    ok-now : (p : Phase) (k : Work) (q : Sequence) (f : Flush) (rs : List ℕ) (w : Wire) → dueAccess (at p k q) ≡ Done Ok → flushAccess f ≡ Done Ok → Now p f c c m τ k rs w
+    ok-now : (p : Stage) (k : Work) (q : Sequence) (f : Flush) (rs : List ℕ) (w : Wire) → dueAccess (at p k q) ≡ Done Ok → flushAccess f ≡ Done Ok → Now p f c c m τ k rs w
         → NowFlush (Flushed Ok) c c m τ k rs w
     ok-now p k q f rs w hp hf N =
-        subst (λ (x : Flush). NowFlush x c c m τ k rs w) (flush-ended f hf) (subst (λ (x : Phase). Now x f c c m τ k rs w) (done-phase p k q Ok hp) N)
+        subst (λ (x : Flush). NowFlush x c c m τ k rs w) (flush-ended f hf) (subst (λ (x : Stage). Now x f c c m τ k rs w) (done-phase p k q Ok hp) N)
       where
         flush-ended : (f : Flush) → flushAccess f ≡ Done Ok → f ≡ Flushed Ok
         flush-ended FlushStatus h = cc

@@ -8,7 +8,7 @@ use native.Mathlib.Omega.{arith}
 use lib.ListN.{length}
 use borrow.Author.Tests.{lt-leb}
 use Rattle.bus.specs.declared.event.Event.{Event}
-use Rattle.bus.specs.declared.event.Event.the-variants.{Step, Clock, Noise}
+use Rattle.bus.specs.declared.event.Event.the-variants.{Step, Clock}
 use Rattle.bus.specs.declared.event.Side.{Side}
 use Rattle.bus.specs.declared.event.Side.the-variants.{Gate, Antenna}
 use Rattle.bus.specs.Start.{Job}
@@ -16,7 +16,7 @@ use Rattle.bus.specs.End.{full, End, stepped}
 use Rattle.bus.specs.Events.{Pair, pair, clockedBy, happened, after}
 use Rattle.bus.specs.Tally.{Tally}
 use Rattle.bus.specs.Agreement.{OkTwice, Plain, seen}
-use Rattle.bus.proofs.ShownLaws.{below-depth}
+use Rattle.bus.proofs.ShownLaws.{below-capacity}
 use Rattle.bus.proofs.EndFacts.{Keeps, own, ok-facts}
 use Rattle.bus.proofs.PairFacts.{Both, both-gate-step, both-antenna-step, both-clocked}
 use Rattle.bus.proofs.SettleFacts.{steps, Settled, over, waits, Leads, leads}
@@ -48,7 +48,7 @@ module _ (jg ja : Job) where
   by-antenna (suc i) x y f = by-step (pair x y) Antenna (by-antenna i x (stepped ja false y) f)
 
 not-full : (e : ℕ) (queue : List ℕ) → length queue ≡ 0 → full e queue ≡ false
-not-full e queue h = lt-leb (2 ^ e) (length queue) (omega (arith, below-depth e))
+not-full e queue h = lt-leb (2 ^ e) (length queue) (omega (arith, below-capacity e))
 
 module _ (n : ℕ) (accepts : Bool) (jg ja : Job) (small-g : jg .exponent ≤ 4) (small-a : ja .exponent ≤ 4) (keeps-g : Keeps jg) (keeps-a : Keeps ja) (σ τ : Tally) where
   abbrev Bo : ℕ → Pair → Type 0

@@ -3,17 +3,17 @@
 use Prim.Native.Nat.{ℕ, zero, suc, _+_, _-_, _^_, _<_, _≤_}
 use mathlib.Core.Bool.{Bool, true, false, cond, _&&_}
 use mathlib.Core.List.{List, [], _∷_, _++_}
-use mathlib.Core.Path.{_≡_, refl, sym, ap, ap₂, _∙_, subst}
+use mathlib.Core.Path.{_≡_, refl, sym, ap, _∙_}
 use native.Mathlib.Numerals.{add-one}
 use native.Mathlib.Omega.{arith}
 use lib.Dec.{ltb, lit<}
-use lib.ListN.{length, getD, take, drop, set, length-drop}
+use lib.ListN.{length, getD, take, drop, set}
 use lib.Seq.{take-suc, take-suc-set, take-take, length-take-le, getD-take}
 use borrow.Author.Tests.{ltb-true, leb-false}
 use Rattle.manual.specs.declared.Register.{Register}
 use Rattle.manual.specs.declared.Register.the-variants.{PARAM, CR, SR, IER, DER, CFGR0, CFGR1, DMR0, DMR1, CCR, FCR, FSR, TCR, TDR, RSR, RDR}
-use Rattle.machine.specs.declared.access.Access.{Access}
-use Rattle.machine.specs.declared.access.Access.the-variants.{Read, Write, Send, Receive, Done}
+use Rattle.sequences.specs.declared.access.Access.{Access}
+use Rattle.sequences.specs.declared.access.Access.the-variants.{Read, Write, Send, Receive, Done}
 use Rattle.words.specs.Buffer.{cutWord}
 use Rattle.words.specs.Width.{widthBits}
 use Rattle.runs.specs.declared.drive.Frame.{Frame}
@@ -24,8 +24,9 @@ use Rattle.bus.specs.declared.port.Port.{Port}
 use Rattle.bus.specs.declared.station.Station.{Station}
 use Rattle.bus.specs.End.{Wire, raised, full, front, behind, placeOf, wireAfter}
 use Rattle.bus.specs.Events.{rewired}
-use Rattle.bus.specs.Held.{queueOf, wireOf, Sized, endOf, sentWord}
-use Rattle.bus.proofs.ShownLaws.{depth-small}
+use Rattle.bus.specs.View.{queueOf, wireOf}
+use Rattle.bus.specs.Held.{Sized, endOf, sentWord}
+use Rattle.bus.proofs.ShownLaws.{capacity-small}
 
 -- A WORD MORE
 pub push-queue : (words : List ℕ) (n w : ℕ) → n < length words → take (n + 1) (set words n w) ≡ take n words ++ (w ∷ [])
@@ -36,6 +37,21 @@ pub first-queue : (words : List ℕ) (n : ℕ) → (n ≡ 0 → ⊥) → getD wo
 first-queue words zero h = absurd (h refl)
 first-queue [] (suc n) h = refl
 first-queue (w ∷ words) (suc n) h = refl
+
+-- ANY OTHER
+pub past-queue : (words : List ℕ) (n i : ℕ) → n ≤ i → 0 ≡ getD (take n words) i 0
+past-queue [] zero i h = refl
+past-queue [] (suc n) i h = refl
+past-queue (w ∷ words) zero i h = refl
+past-queue (w ∷ words) (suc n) zero h = absurd (omega arith)
+past-queue (w ∷ words) (suc n) (suc i) h = past-queue words n i (omega arith)
+
+pub past-words : (words : List ℕ) (n i : ℕ) → length words ≤ i → 0 ≡ getD (take n words) i 0
+past-words [] zero i h = refl
+past-words [] (suc n) i h = refl
+past-words (w ∷ words) zero i h = refl
+past-words (w ∷ words) (suc n) zero h = absurd (omega arith)
+past-words (w ∷ words) (suc n) (suc i) h = past-words words n i (omega arith)
 
 -- A WORD LESS
 pub shift-more : (words out : List ℕ) (i : ℕ) → i < length out → i + 1 < length words → take i out ≡ take i (drop 1 words)
@@ -103,7 +119,7 @@ place-small RDR = lit< tt
 pub room : (e : ℕ) (f : Fifo) → e ≤ 4 → Sized f → full e (queueOf f) ≡ false → f .count < 16
 room e f h s full =
     let l = leb-false (2 ^ e) (length (queueOf f)) full in
-    omega (arith, l, depth-small e h, length-take-le (f .count) (f .words) (omega (arith, s .within, s .places)))
+    omega (arith, l, capacity-small e h, length-take-le (f .count) (f .words) (omega (arith, s .within, s .places)))
 
 -- AN END WITH ANOTHER PORT
 abbrev pub Ported : Station → Station → Port → Type 0

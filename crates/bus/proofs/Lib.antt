@@ -1,16 +1,17 @@
-pub mod ShownLaws
-pub mod WordLists
-pub mod RecoveryFacts
+mod ShownLaws
+mod WordLists
+mod RecoveryFacts
 pub mod EndFacts
-pub mod WireFacts
-pub mod PairFacts
+mod WireFacts
+mod PairFacts
 pub mod SettleFacts
-pub mod FinishFacts
-pub mod StartFacts
+mod FinishFacts
+mod StartFacts
 pub mod Demand3
 pub mod CourseFacts
-pub mod HeldLaws
-pub mod StationLaws
-pub mod RunLaws
-pub mod BeginLaws
-pub mod TrialLaws
+mod HeldLaws
+mod StationLaws
+mod RunLaws
+mod BeginLaws
+mod TrialLaws
+pub mod ByteLaws

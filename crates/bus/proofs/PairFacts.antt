@@ -1,6 +1,6 @@
 -- The pair: every event keeps what is known of both ends.
 -- Assumes nothing.
-use Prim.Native.Nat.{ℕ, suc, _+_, _<_, _≤_}
+use Prim.Native.Nat.{ℕ, suc, _<_, _≤_}
 use mathlib.Core.Bool.{Bool, true, false, _&&_, not}
 use mathlib.Core.List.{List, [], _∷_}
 use mathlib.Core.Path.{_≡_, refl, ap, subst}
@@ -12,7 +12,7 @@ use Rattle.bus.specs.declared.event.Side.the-variants.{Gate, Antenna}
 use Rattle.bus.specs.Start.{Job}
 use Rattle.bus.specs.End.{full, End, stepped}
 use Rattle.bus.specs.Events.{Pair, pair, clockedBy, happened, after}
-use Rattle.bus.specs.Tally.{Tally, noted, some, gateNotes, antennaNotes, tallied}
+use Rattle.bus.specs.Tally.{Tally, noted, waiting, gateNotes, antennaNotes, tallied}
 use Rattle.bus.proofs.WordLists.{from, uncons}
 use Rattle.bus.proofs.EndFacts.{Keeps, own, Good, keep-step, no-overrun}
 use Rattle.bus.proofs.WireFacts.{good-noise, good-sent, good-made-up, good-arrived}
@@ -52,8 +52,8 @@ module _ (n : ℕ) (accepts : Bool) (jg ja : Job) (small-g : jg .exponent ≤ 4)
       }
 
   both-clock : (c : ℕ) (σ τ : Tally) (p : Pair) (ours theirs : List ℕ) → p .gate .wire .transmit ≡ ours → p .antenna .wire .transmit ≡ theirs → Both c σ τ p
-      → (c′ : ℕ) × Both c′ (noted (some ours && full (jg .exponent) (p .gate .wire .receive)) false false σ)
-      (noted (some ours && full (ja .exponent) (p .antenna .wire .receive)) (some ours && not (some theirs)) false τ) (clockedBy jg ja ours theirs p)
+      → (c′ : ℕ) × Both c′ (noted (waiting ours && full (jg .exponent) (p .gate .wire .receive)) false false σ)
+      (noted (waiting ours && full (ja .exponent) (p .antenna .wire .receive)) (waiting ours && not (waiting theirs)) false τ) (clockedBy jg ja ours theirs p)
   unfolding clockedBy
   both-clock c σ τ p [] theirs eg ea b = (c, b)
   both-clock c σ τ p (v ∷ ours) [] eg ea b =

@@ -5,18 +5,17 @@ use mathlib.Core.Bool.{Bool, true, false, _&&_}
 use mathlib.Core.List.{List, [], _∷_}
 use lib.Dec.{T}
 use lib.ListN.{getD}
-use Rattle.manual.specs.declared.Register.{Register}
 use Rattle.manual.specs.declared.Register.the-variants.{SR}
-use Rattle.machine.specs.declared.access.Access.{Access}
-use Rattle.machine.specs.declared.access.Access.the-variants.{Read, Write, Send, Receive, Done}
-use Rattle.machine.specs.declared.sequence.Change.{Change}
-use Rattle.machine.specs.declared.sequence.Change.the-variants.{Reset, Release, ClearFifos, ClearFifo, Enable, Restore, Controller, HalfFull, Watermark, Sample, Peripheral, Polarity}
-use Rattle.machine.specs.declared.sequence.Move.{Move}
-use Rattle.machine.specs.declared.sequence.Move.the-variants.{Keep, KeepClock, Look, Wait, WaitClock, Size, Arrived, Modify, Set, Write as WriteWord, Put, End}
-use Rattle.machine.specs.declared.sequence.Sequence.{Sequence}
-use Rattle.machine.specs.Recovery.{recovery, recoveryMove, recoveryAccess}
-use Rattle.machine.specs.Sequence.{moveAccess, changeRegister}
-use Rattle.machine.specs.Status.{cleared, errors}
+use Rattle.sequences.specs.declared.access.Access.{Access}
+use Rattle.sequences.specs.declared.access.Access.the-variants.{Read, Write, Send, Receive, Done}
+use Rattle.sequences.specs.declared.sequence.Change.{Change}
+use Rattle.sequences.specs.declared.sequence.Change.the-variants.{Reset, Release, ClearFifos, ClearFifo, Enable, Restore, Controller, HalfFull, Watermark, Sample, Peripheral, Polarity}
+use Rattle.sequences.specs.declared.sequence.Move.{Move}
+use Rattle.sequences.specs.declared.sequence.Move.the-variants.{Keep, KeepClock, Look, Wait, WaitClock, Size, Arrived, Modify, Set, Write as WriteWord, Put, End}
+use Rattle.sequences.specs.declared.sequence.Sequence.{Sequence}
+use Rattle.sequences.specs.Recovery.{recovery, recoveryMove, recoveryAccess}
+use Rattle.sequences.specs.Sequence.{moveAccess, changeRegister}
+use Rattle.sequences.specs.Status.{cleared, errors}
 use Rattle.bus.specs.declared.register.Role.{Role}
 use Rattle.bus.specs.declared.register.Role.the-variants.{Sizes as sizes, Status as status, Counts as counts, Control as control, Sends as sends, Receives as receives, Holds as holds}
 use Rattle.bus.specs.End.{roleOf}

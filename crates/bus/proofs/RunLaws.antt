@@ -8,21 +8,20 @@ use native.Mathlib.Numerals.{add-one}
 use native.Mathlib.Omega.{arith}
 use lib.ListN.{length, getD, take}
 use lib.Seq.{length-take-le}
-use Rattle.words.specs.declared.transaction.Direction.{Direction}
-use Rattle.machine.specs.declared.access.Access.{Access}
-use Rattle.machine.specs.declared.access.Access.the-variants.{Read, Write, Send, Receive, Done}
+use Rattle.sequences.specs.declared.access.Access.{Access}
+use Rattle.sequences.specs.declared.access.Access.the-variants.{Read, Write, Send, Receive, Done}
 use Rattle.machine.specs.Transfer.{dueAccess}
 use Rattle.bus.specs.declared.event.Event.{Event}
 use Rattle.bus.specs.declared.event.Event.the-variants.{Step, Clock, Noise}
 use Rattle.bus.specs.declared.event.Side.the-variants.{Gate, Antenna}
 use Rattle.bus.specs.declared.station.Link.{Link}
 use Rattle.bus.specs.declared.station.Station.{Station}
-use Rattle.bus.specs.Start.{Start, wordsOf, accepted, Job, job}
+use Rattle.bus.specs.Start.{Start, frameWords, accepted, Job, job}
 use Rattle.bus.specs.Codes.{eventOf, eventsOf}
 use Rattle.bus.specs.End.{Wire, wireAfter, registersAfter, End, endAccess, stepped}
 use Rattle.bus.specs.Events.{Pair, pair, clockedBy, happened, after, freshPair, pairAfter}
 use Rattle.bus.specs.Held.{endOf, linkJob, Stored, Linked}
-use Rattle.bus.proofs.StartFacts.{Fit, fit}
+use Rattle.bus.proofs.StartFacts.{fit}
 use Rattle.bus.proofs.Demand3.{gate-receives, antenna-receives, gate-sends, antenna-sends}
 use Rattle.bus.proofs.StationLaws.{word-due, same-end}
 
@@ -36,8 +35,8 @@ after-last j k p (b ∷ bs) (suc i) h = after-last j k (happened j k p (eventOf 
 
 -- room for the next word, of an end that stands where the definition's does
 room-for : (s : Station) (words registers : List ℕ) (x : End) (b : Start) → endOf s words registers ≡ x → s .received ≤ length words
-    → (accepted b ≡ true → wordsOf b ≤ length words)
-    → ((i : ℕ) → dueAccess (x .transfer) ≡ Receive i → (accepted b ≡ true) × (length (x .received) < wordsOf b)) → Stored s words
+    → (accepted b ≡ true → frameWords b ≤ length words)
+    → ((i : ℕ) → dueAccess (x .transfer) ≡ Receive i → (accepted b ≡ true) × (length (x .received) < frameWords b)) → Stored s words
 room-for s words registers x b e within room receives i h =
     let r = receives i (ap (λ (y : End). dueAccess (y .transfer)) (sym e) ∙ h) in
     let n : length (x .received) ≡ s .received = ap (λ (y : End). length (y .received)) (sym e) ∙ length-take-le (s .received) words within in

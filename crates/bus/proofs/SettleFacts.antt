@@ -1,39 +1,38 @@
 -- An end that no flag was ever set at settles: some steps of its own, never busy, bring it to Ok twice, or to where it has nothing to take and a word
 -- to send, and waits for a clock.
 -- Assumes nothing.
-use Prim.Native.Nat.{ℕ, zero, suc, _+_, _-_, _^_, _<_, _≤_}
+use Prim.Native.Nat.{ℕ, zero, suc, _+_, _^_, _<_, _≤_}
 use mathlib.Core.Bool.{Bool, true, false, cond}
 use mathlib.Core.List.{List, [], _∷_, _++_}
 use mathlib.Core.Logic.{_⊎_, inl, inr, ⊎-elim}
-use mathlib.Core.Path.{_≡_, refl, sym, ap, _∙_, subst}
+use mathlib.Core.Path.{_≡_, refl, sym, subst}
 use native.Mathlib.Omega.{arith}
-use lib.Dec.{eqb, ltb, leb}
+use lib.Dec.{ltb}
 use lib.ListN.{length, getD}
 use borrow.Author.Tests.{ltb-true, ltb-false, lt-ltb, le-ltb, eq-eqb, lt-leb}
 use Rattle.manual.specs.declared.Field.the-variants.{Param}
 use Rattle.manual.specs.declared.Param.the-variants.{TXFIFO}
-use Rattle.manual.specs.declared.Register.the-variants.{PARAM, SR, FSR, TCR}
+use Rattle.manual.specs.declared.Register.the-variants.{PARAM, SR, TCR}
 use Rattle.manual.specs.Manual.{readField}
 use Rattle.words.specs.declared.transaction.LpspiError.the-variants.{FrameSize, Fifo}
-use Rattle.machine.specs.declared.access.Access.the-variants.{Write}
-use Rattle.machine.specs.declared.access.Ending.the-variants.{Ok, Err, Stopped, Limits, ZeroClock, FifoExponent}
+use Rattle.sequences.specs.declared.access.Access.the-variants.{Write}
+use Rattle.sequences.specs.declared.access.Ending.the-variants.{Ok, Err, Stopped, Limits, ZeroClock, FifoExponent}
 use Rattle.machine.specs.declared.flush.Flush.{Flush}
 use Rattle.machine.specs.declared.flush.Flush.the-variants.{Status as FlushStatus, Sizes as FlushSizes, Counts as FlushCounts, Ended as Flushed}
-use Rattle.machine.specs.declared.poll.Poll.{Poll}
 use Rattle.machine.specs.declared.poll.Poll.the-variants.{Status, Sizes, Counts}
-use Rattle.machine.specs.declared.sequence.Sequence.{Sequence}
-use Rattle.machine.specs.declared.transfer.Phase.{Phase}
-use Rattle.machine.specs.declared.transfer.Phase.the-variants.{Space, Command, Sending, Send, Receiving, Receive, Recovery, Ended}
+use Rattle.sequences.specs.declared.sequence.Sequence.{Sequence}
+use Rattle.machine.specs.declared.transfer.Stage.{Stage}
+use Rattle.machine.specs.declared.transfer.Stage.the-variants.{Space, Command, Sending, Send, Receiving, Receive, Recovery, Ended}
 use Rattle.machine.specs.declared.transfer.Work.{Work}
 use Rattle.machine.specs.Transfer.{at, sendTurn, receiveTurn, counted, oneSent, oneReceived, dueAccess, resumed}
 use Rattle.runs.proofs.Places.{counted-up}
 use Rattle.bus.specs.Start.{Job}
-use Rattle.bus.specs.End.{Wire, queues, front, behind, full, placeOf, shows, registersAfter, End, end, stepped}
+use Rattle.bus.specs.End.{Wire, queues, front, behind, placeOf, shows, registersAfter, End, end, stepped}
 use Rattle.bus.specs.Tally.{Tally}
 use Rattle.bus.specs.Agreement.{OkTwice, seen}
-use Rattle.bus.proofs.ShownLaws.{shows-t, shows-r, shows-busy, shows-exponent, below-depth}
+use Rattle.bus.proofs.ShownLaws.{shows-t, shows-r, shows-busy, shows-exponent, below-capacity}
 use Rattle.bus.proofs.WordLists.{length-snoc, length-behind}
-use Rattle.bus.proofs.EndFacts.{Keeps, Core, Asked, Now, NowFlush, Base, shown-transmit, shown-receive, pushed, core-send, base-send, core-receive, base-receive}
+use Rattle.bus.proofs.EndFacts.{Keeps, Core, Now, NowFlush, Base, shown-transmit, shown-receive, pushed, core-send, base-send, core-receive, base-receive}
 
 -- steps of one end alone, never busy
 unfoldable pub steps : Job → ℕ → End → End
@@ -77,7 +76,7 @@ module _ (n : ℕ) (accepts : Bool) (j : Job) (other : ℕ → ℕ) (small-e : j
   -- SINGLE STEPS, each from its phase to the next
   module _ (k : Work) (q : Sequence) (rs : List ℕ) (w : Wire) (g : List ℕ) (B : Bs w) where
     -- with its transfer in that phase
-    abbrev on : Phase → End
+    abbrev on : Stage → End
     on p = end (at p k q) FlushStatus rs w g
 
     -- with its transfer answered Ok
@@ -131,7 +130,7 @@ module _ (n : ℕ) (accepts : Bool) (j : Job) (other : ℕ → ℕ) (small-e : j
 
     go-send : length (w .transmit) < j .exponent → L (end (at (sendTurn (oneSent k)) (oneSent k) q) FlushStatus rs (pushed n accepts j other small-e keeps c m τ rs k w) g) → L (on Send)
     unfolding stepped dueAccess resumed
-    go-send h l = step-to (rw (lt-leb (2 ^ j .exponent) (length (w .transmit)) (omega (arith, below-depth (j .exponent))))) l
+    go-send h l = step-to (rw (lt-leb (2 ^ j .exponent) (length (w .transmit)) (omega (arith, below-capacity (j .exponent))))) l
 
     go-receiving-status : L (on (Receiving Sizes)) → L (on (Receiving Status))
     unfolding stepped dueAccess resumed
@@ -220,7 +219,7 @@ module _ (n : ℕ) (accepts : Bool) (j : Job) (other : ℕ → ℕ) (small-e : j
             let b : length (w .transmit) ≡ 0 = omega (arith, ltb-false 0 (length (w .transmit)) h′) in
             let l′ : c < n = omega (arith, x .inEq, B .lostLe, calm) in
             let e : sendTurn k ≡ Sending Status = rw (lt-ltb (k .sent) (k .send) (omega (arith, x .toSend, x .outEq, B .madeLe, calm))) in
-            go-receiving-unready v a (subst (λ (p : Phase). L (on p)) (sym e) (kick pos a b l′))
+            go-receiving-unready v a (subst (λ (p : Stage). L (on p)) (sym e) (kick pos a b l′))
 
     sending-counts : (v : ℕ) → Cr k rs w → readField (Param TXFIFO) v ≡ j .exponent → (length (w .transmit) < j .exponent → L (on Send)) → (length rs < n → L (on (Receiving Status)))
         → L (on (Sending (Counts v)))
@@ -231,7 +230,7 @@ module _ (n : ℕ) (accepts : Bool) (j : Job) (other : ℕ → ℕ) (small-e : j
         by-test false h = go-sending-unready v (ltb-false (length (w .transmit)) (readField (Param TXFIFO) v) h) (turn-receive x go′)
 
   module _ (pos : 0 < j .exponent) where
-    abbrev run-on : Work → Sequence → List ℕ → Wire → List ℕ → Phase → End
+    abbrev run-on : Work → Sequence → List ℕ → Wire → List ℕ → Stage → End
     run-on k q rs w g p = end (at p k q) FlushStatus rs w g
 
     -- from the receiving side's poll, with at most i words to take
@@ -311,7 +310,7 @@ module _ (n : ℕ) (accepts : Bool) (j : Job) (other : ℕ → ℕ) (small-e : j
     flush-leads (Flushed FifoExponent) k q rs w g B N = absurd N
 
     -- EVERY PHASE SETTLES. Before its flush has begun
-    phase-leads : accepts ≡ true → (p : Phase) (k : Work) (q : Sequence) (rs : List ℕ) (w : Wire) (g : List ℕ) → Bs w → Now n accepts j other p FlushStatus c c m τ k rs w → L (run-on k q rs w g p)
+    phase-leads : accepts ≡ true → (p : Stage) (k : Work) (q : Sequence) (rs : List ℕ) (w : Wire) (g : List ℕ) → Bs w → Now n accepts j other p FlushStatus c c m τ k rs w → L (run-on k q rs w g p)
     phase-leads a (Space Status) k q rs w g B N =
         go-space-status k q rs w g B
         (go-space-sizes k q rs w g B
@@ -341,7 +340,7 @@ module _ (n : ℕ) (accepts : Bool) (j : Job) (other : ℕ → ℕ) (small-e : j
     phase-leads a (Ended FifoExponent) k q rs w g B N = absurd N
 
     -- at any stage of it
-    begun-flush : (p : Phase) (f : Flush) (k : Work) (rs : List ℕ) (w : Wire) → Now n accepts j other p f c c m τ k rs w → (p ≡ Ended Ok) ⊎ (f ≡ FlushStatus) ⊎ (0 < τ .flags) ⊎ (accepts ≡ false)
+    begun-flush : (p : Stage) (f : Flush) (k : Work) (rs : List ℕ) (w : Wire) → Now n accepts j other p f c c m τ k rs w → (p ≡ Ended Ok) ⊎ (f ≡ FlushStatus) ⊎ (0 < τ .flags) ⊎ (accepts ≡ false)
     begun-flush (Space v) f k rs w N = inr (inl (N .1))
     begun-flush Command f k rs w N = inr (inl (N .1))
     begun-flush (Sending v) f k rs w N = inr (inl (N .1))
@@ -357,12 +356,12 @@ module _ (n : ℕ) (accepts : Bool) (j : Job) (other : ℕ → ℕ) (small-e : j
     begun-flush (Ended ZeroClock) f k rs w N = absurd N
     begun-flush (Ended FifoExponent) f k rs w N = absurd N
 
-    pub leads : accepts ≡ true → (p : Phase) (f : Flush) (k : Work) (q : Sequence) (rs : List ℕ) (w : Wire) (g : List ℕ) → Bs w → Now n accepts j other p f c c m τ k rs w
+    pub leads : accepts ≡ true → (p : Stage) (f : Flush) (k : Work) (q : Sequence) (rs : List ℕ) (w : Wire) (g : List ℕ) → Bs w → Now n accepts j other p f c c m τ k rs w
         → L (end (at p k q) f rs w g)
     leads a p f k q rs w g B N =
         ⊎-elim
-        (λ (e : p ≡ Ended Ok). subst (λ (z : Phase). L (end (at z k q) f rs w g)) (sym e)
-        (flush-leads f k q rs w g B (subst (λ (z : Phase). Now n accepts j other z f c c m τ k rs w) e N)))
+        (λ (e : p ≡ Ended Ok). subst (λ (z : Stage). L (end (at z k q) f rs w g)) (sym e)
+        (flush-leads f k q rs w g B (subst (λ (z : Stage). Now n accepts j other z f c c m τ k rs w) e N)))
         (⊎-elim
         (λ (e : f ≡ FlushStatus). subst (λ (z : Flush). L (end (at p k q) z rs w g)) (sym e)
         (phase-leads a p k q rs w g B (subst (λ (z : Flush). Now n accepts j other p z c c m τ k rs w) e N)))

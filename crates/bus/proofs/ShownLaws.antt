@@ -73,14 +73,14 @@ module _ (e : ℕ) (busy : Bool) (w : Wire) where
       let l : length (w .receive) < 2 ^ 5 = omega arith in
       read-all (Fsr RXCOUNT) ((Fsr RXCOUNT, length (w .receive)) ∷ (Fsr TXCOUNT, length (w .transmit)) ∷ []) 0 tt ∙ mod-eq-of-lt l
 
-pub below-depth : (e : ℕ) → e < 2 ^ e
-below-depth zero = omega arith
-below-depth (suc e) = omega (arith, below-depth e)
+pub below-capacity : (e : ℕ) → e < 2 ^ e
+below-capacity zero = omega arith
+below-capacity (suc e) = omega (arith, below-capacity e)
 
-pub depth-small : (e : ℕ) → e ≤ 4 → 2 ^ e ≤ 16
-depth-small zero h = omega arith
-depth-small (suc zero) h = omega arith
-depth-small (suc (suc zero)) h = omega arith
-depth-small (suc (suc (suc zero))) h = omega arith
-depth-small (suc (suc (suc (suc zero)))) h = omega arith
-depth-small (suc (suc (suc (suc (suc e))))) h = omega arith
+pub capacity-small : (e : ℕ) → e ≤ 4 → 2 ^ e ≤ 16
+capacity-small zero h = omega arith
+capacity-small (suc zero) h = omega arith
+capacity-small (suc (suc zero)) h = omega arith
+capacity-small (suc (suc (suc zero))) h = omega arith
+capacity-small (suc (suc (suc (suc zero)))) h = omega arith
+capacity-small (suc (suc (suc (suc (suc e))))) h = omega arith

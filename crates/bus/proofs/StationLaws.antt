@@ -1,26 +1,23 @@
 -- A step, a clock and noise as the code makes them, from what its parts promise.
 -- Assumes nothing.
-use Prim.Native.Nat.{ℕ, suc, zero, _+_, _<_, _≤_}
-use mathlib.Core.Bool.{Bool, true, false, cond}
-use mathlib.Core.List.{List, [], _∷_, _++_}
+use Prim.Native.Nat.{ℕ, suc, zero, _<_, _≤_}
+use mathlib.Core.Bool.{Bool, true, false}
+use mathlib.Core.List.{List, [], _∷_}
 use mathlib.Core.Path.{_≡_, refl, sym, ap, ap₂, _∙_, subst}
 use native.Mathlib.Omega.{arith}
-use lib.Dec.{ltb}
 use lib.ListN.{length, take, set}
-use borrow.Author.Tests.{ltb-true}
 use Rattle.words.specs.declared.transaction.Direction.{Direction}
 use Rattle.words.specs.declared.transaction.Direction.the-variants.{Tx}
-use Rattle.machine.specs.declared.access.Access.{Access}
-use Rattle.machine.specs.declared.access.Access.the-variants.{Read, Write, Send, Receive, Done}
+use Rattle.sequences.specs.declared.access.Access.{Access}
+use Rattle.sequences.specs.declared.access.Access.the-variants.{Read, Write, Send, Receive, Done}
 use Rattle.machine.specs.declared.flush.Flush.{Flush}
 use Rattle.machine.specs.declared.flush.Flush.the-variants.{Status, Sizes, Counts, Ended}
 use Rattle.machine.specs.declared.transfer.Transfer.{Transfer}
 use Rattle.machine.specs.Flush.{flushAccess}
-use Rattle.machine.specs.Transfer.{counted, dueAccess, resumed}
+use Rattle.machine.specs.Transfer.{dueAccess, resumed}
 use Rattle.runs.specs.Drive.{wordIn, gotAfter, wordsAfter}
 use Rattle.runs.specs.Run.{answerOf, receivedAfter}
 use Rattle.runs.proofs.Places.{counted-up}
-use Rattle.bus.specs.declared.clock.Pair.{Pair as Stations}
 use Rattle.bus.specs.declared.event.Event.{Event}
 use Rattle.bus.specs.declared.event.Event.the-variants.{Step, Clock, Noise}
 use Rattle.bus.specs.declared.event.Side.the-variants.{Gate, Antenna}
@@ -29,9 +26,10 @@ use Rattle.bus.specs.declared.port.Port.{Port}
 use Rattle.bus.specs.declared.station.Link.{Link}
 use Rattle.bus.specs.declared.station.Station.{Station}
 use Rattle.bus.specs.Start.{Job}
-use Rattle.bus.specs.End.{Wire, queues, raised, arrived, front, behind, answerTo, wireAfter, registersAfter, End, end, firstDue, endAccess, afterAccess, stepped}
+use Rattle.bus.specs.End.{Wire, queues, raised, arrived, front, behind, answerTo, wireAfter, registersAfter, End, end, firstDue, endAccess, endAfter, stepped}
 use Rattle.bus.specs.Events.{Pair, pair, rewired, clockedBy, happened}
-use Rattle.bus.specs.Held.{queueOf, wireOf, Sized, endOf, linkJob, sentWord, flushNext, Stored, Clocked}
+use Rattle.bus.specs.View.{queueOf, wireOf}
+use Rattle.bus.specs.Held.{Sized, endOf, linkJob, sentWord, flushNext, Stored, Clocked}
 use Rattle.bus.proofs.WordLists.{false-true}
 use Rattle.bus.proofs.HeldLaws.{push-queue, word-taken, wire-sent, Ported, ported}
 
@@ -103,7 +101,7 @@ pub step-is : (s : Station) (busy : Bool) (l : Link) (send words registers : Lis
     → endOf (record { transfer = t; flush = f; received = n; port = p }) words′ registers′ ≡ stepped (linkJob l send) busy (endOf s words registers)
 unfolding stepped
 step-is s busy l send words registers a v word n words′ registers′ t f p ea ev ew eg en ews et ef ep within h =
-    subst (λ (x : Access). end t f (take n words′) (wireOf p) registers′ ≡ afterAccess (linkJob l send) x (answerTo (l .exponent) busy (wireOf (s .port)) registers x) (endOf s words registers)) ea
+    subst (λ (x : Access). end t f (take n words′) (wireOf p) registers′ ≡ endAfter (linkJob l send) x (answerTo (l .exponent) busy (wireOf (s .port)) registers x) (endOf s words registers)) ea
     (same-end
     (et ∙ ap (resumed (s .transfer)) same)
     (ef ∙ ap (flushNext (s .transfer) (s .flush)) same)
@@ -128,7 +126,7 @@ some-words f s h = by-words (f .count) (f .words) h (omega (arith, s .places))
     by-words (suc n) [] h l = absurd (omega arith)
     by-words (suc n) (w ∷ words) h l = refl
 
-same-pair : {x x′ y y′ : End} → x ≡ x′ → y ≡ y′ → pair x y ≡ pair x′ y′
+pub same-pair : {x x′ y y′ : End} → x ≡ x′ → y ≡ y′ → pair x y ≡ pair x′ y′
 same-pair a b = cc
 
 -- an end whose port came to that wire
@@ -161,18 +159,6 @@ module _ (eg ea : ℕ) (g a : Station) where
         same-pair (moved g g′ gp pg (wg ∙ ap (λ (e : ℕ). arrived e u (queues ours (queueOf (g .port .receive)) (wireOf (g .port)))) (sym e₁)) ws rs)
         (moved a a′ ap′ pa (wa ∙ ap (λ (e : ℕ). arrived e v (queues theirs (queueOf (a .port .receive)) (wireOf (a .port)))) (sym e₂)) xs ys)
         ∙ ap₂ (λ (q r : List ℕ). clockedBy jg ja q r (pair (endOf g ws rs) (endOf a xs ys))) (sym eo) (sym et)
-
--- A WORD MORE stays within
-pub got-within : (a : Access) (n places : ℕ) → n ≤ places → gotAfter a n places ≤ places
-got-within (Read r) n places h = h
-got-within (Write r v) n places h = h
-got-within (Send i) n places h = h
-got-within (Receive i) n places h = by-test (ltb n places) refl
-  where
-    by-test : (b : Bool) → ltb n places ≡ b → cond b (n + 1) n ≤ places
-    by-test true e = omega (arith, ltb-true n places e)
-    by-test false e = h
-got-within (Done x) n places h = h
 
 -- ONE EVENT
 module _ (jg ja : Job) (x y : End) (v : Event) where

@@ -1,12 +1,12 @@
 -- The pair entry, from what its parts promise.
 -- Assumes nothing.
-use Prim.Native.Nat.{ℕ, zero, suc, _+_, _*_, _<_, _≤_}
+use Prim.Native.Nat.{ℕ, zero, suc, _*_, _≤_}
 use mathlib.Core.Bool.{Bool, true, false, cond, _||_, _&&_}
 use mathlib.Core.List.{List, []}
 use mathlib.Core.Path.{_≡_, refl, sym, ap, ap₂, _∙_, subst}
 use native.Mathlib.Omega.{arith}
 use lib.Dec.{eqb, ltb}
-use lib.ListN.{length, getD, take, replicate, length-replicate}
+use lib.ListN.{length, getD, replicate, length-replicate}
 use borrow.Author.Tests.{eqb-true}
 use Rattle.words.specs.declared.order.BitOrder.{BitOrder}
 use Rattle.words.specs.declared.width.Width.{Width}
@@ -14,11 +14,10 @@ use Rattle.words.specs.declared.width.Width.the-variants.{U8, U16, U32}
 use Rattle.words.specs.Buffer.{wordCount, wordAt, packWords, unpackWords, cutWord}
 use Rattle.words.specs.Command.{frameAccepted}
 use Rattle.words.specs.Width.{widthBits}
-use Rattle.words.specs.Word.{perWord, laid}
+use Rattle.words.specs.Word.{laid}
 use Rattle.words.proofs.WordLaws.{Elements}
 use Rattle.words.proofs.CommandLaws.{accepted-between}
 use Rattle.words.proofs.LaidLaws.{in-place-word, packed-at}
-use Rattle.machine.specs.declared.driver.Lpspi.{Lpspi}
 use Rattle.machine.specs.declared.flush.Flush.the-variants.{Status}
 use Rattle.machine.specs.declared.transfer.Transfer.{Transfer}
 use Rattle.runs.specs.declared.drive.Frame.{Frame}
@@ -27,16 +26,18 @@ use Rattle.transfers.specs.Transfers.{Plan, separatePlan, inPlacePlan}
 use Rattle.bus.specs.declared.board.Board.{Board}
 use Rattle.bus.specs.declared.station.Link.{Link}
 use Rattle.bus.specs.declared.station.Station.{Station}
-use Rattle.bus.specs.Start.{Start, bits, started, total, wordsOf, accepted, unfit, job, transferOf}
-use Rattle.bus.specs.Begin.{totalBy, begunBy, unfitBy}
+use Rattle.bus.specs.Start.{Start, elementBits, started, total, frameWords, accepted, unfit, job}
+use Rattle.bus.specs.Begin.{totalBy, begunBy}
 use Rattle.bus.specs.End.{freshWire, freshRegisters, End, end, freshEnd}
-use Rattle.bus.specs.Events.{Pair, pair, pairAfter}
+use Rattle.bus.specs.Events.{pairAfter}
 use Rattle.bus.specs.Agreement.{Seen, seen, bufferOf, Agreement}
 use Rattle.bus.specs.Codes.{eventsOf}
 use Rattle.bus.specs.Held.{endOf, linkJob, LinkOf}
 use Rattle.bus.specs.declared.trial.Outcome.{Outcome}
-use Rattle.bus.specs.Trial.{Slices, pick, placed, startOf, TrialLeft, stationSeen, stateOf, trialLeft, trialOf}
+use Rattle.bus.specs.View.{stationSeen, stateOf}
+use Rattle.bus.specs.Trial.{Slices, pick, placed, startOf, TrialLeft, trialLeft, trialOf}
 use Rattle.bus.proofs.BeginLaws.{total-is, begun-is}
+use Rattle.bus.proofs.StartFacts.{divides}
 use Rattle.bus.proofs.Demand3.{agreement}
 
 -- LINKS
@@ -44,11 +45,6 @@ blank : (n j : ℕ) → getD (replicate {A = ℕ} n 0) j 0 ≡ 0
 blank zero j = refl
 blank (suc n) zero = refl
 blank (suc n) (suc j) = blank n j
-
-divides : (w : Width) → 0 < perWord (widthBits w)
-divides U8 = omega arith
-divides U16 = omega arith
-divides U32 = omega arith
 
 -- an accepted frame has at most 128 FIFO words
 pub few-words : (w : Width) (n : ℕ) → (eqb n 0 || frameAccepted (widthBits w * n)) ≡ true → wordCount (widthBits w) n ≤ 128
@@ -73,31 +69,31 @@ frame-eq : {w w′ : Width} {t t′ : ℕ} {b b′ : Bool} → w ≡ w′ → t 
 frame-eq a b c = cc
 
 module _ (s : Start) (l : Link) (send : List ℕ) (e : l .exponent ≡ s .board .exponent) (ew : l .frame .width ≡ s .board .width) (et : l .frame .total ≡ total s)
-    (ei : l .frame .inplace ≡ s .board .inplace) (es : send ≡ laid (packWords (s .board .driver .order) (bits s) (total s) (started s)) (replicate {A = ℕ} 128 0)) where
+    (ei : l .frame .inplace ≡ s .board .inplace) (es : send ≡ laid (packWords (s .board .driver .order) (elementBits s) (total s) (started s)) (replicate {A = ℕ} 128 0)) where
   abbrev o : BitOrder
   o = s .board .driver .order
 
-  packed : accepted s ≡ true → (i : ℕ) → getD send i 0 ≡ wordAt o (bits s) (total s) (started s) i
+  packed : accepted s ≡ true → (i : ℕ) → getD send i 0 ≡ wordAt o (elementBits s) (total s) (started s) i
   packed ok i =
       ap (λ (xs : List ℕ). getD xs i 0) es
-      ∙ packed-at o (bits s) (total s) i (started s) (replicate {A = ℕ} 128 0) (divides (s .board .width)) (blank 128)
-      (subst (λ (m : ℕ). wordsOf s ≤ m) (sym (length-replicate {A = ℕ} 128 0)) (few-words (s .board .width) (total s) ok))
+      ∙ packed-at o (elementBits s) (total s) i (started s) (replicate {A = ℕ} 128 0) (divides (s .board .width)) (blank 128)
+      (subst (λ (m : ℕ). frameWords s ≤ m) (sym (length-replicate {A = ℕ} 128 0)) (few-words (s .board .width) (total s) ok))
 
   -- the frame is that of the board
   same-frame : l .frame ≡ record { width = s .board .width; total = total s; inplace = s .board .inplace }
   same-frame = frame-eq ew et ei
 
   abbrev planBy : Bool → Plan
-  planBy b = cond b (inPlacePlan (bits s) (s .board .driver) (s .read)) (separatePlan (bits s) (s .board .driver) (s .read) (s .write))
+  planBy b = cond b (inPlacePlan (elementBits s) (s .board .driver) (s .read)) (separatePlan (elementBits s) (s .board .driver) (s .read) (s .write))
 
   word-sent : accepted s ≡ true → (rs : List ℕ) (i : ℕ) → linkJob l send .words rs i ≡ job s .words rs i
   word-sent ok rs i =
       ap (λ (f : Frame). wordIn f send rs (length rs) i) same-frame ∙ by-place (s .board .inplace) (packed ok i)
     where
-      by-place : (b : Bool) → getD send i 0 ≡ wordAt o (bits s) (planBy b .total) (cond b (s .read) (s .write)) i
-          → cond (b && ltb i (length rs)) (cutWord (bits s) (planBy b .total) i (getD rs i 0)) (getD send i 0) ≡ planBy b .words rs i
+      by-place : (b : Bool) → getD send i 0 ≡ wordAt o (elementBits s) (planBy b .total) (cond b (s .read) (s .write)) i
+          → cond (b && ltb i (length rs)) (cutWord (elementBits s) (planBy b .total) i (getD rs i 0)) (getD send i 0) ≡ planBy b .words rs i
       by-place true h =
-          ap (λ (v : ℕ). cond (ltb i (length rs)) (cutWord (bits s) (length (s .read)) i (getD rs i 0)) v) h ∙ sym (in-place-word o (bits s) (length (s .read)) i rs (s .read) refl)
+          ap (λ (v : ℕ). cond (ltb i (length rs)) (cutWord (elementBits s) (length (s .read)) i (getD rs i 0)) v) h ∙ sym (in-place-word o (elementBits s) (length (s .read)) i rs (s .read) refl)
       by-place false h = h
 
   pub link-of : LinkOf s l send 128
@@ -131,7 +127,7 @@ fresh-lent b reads writes n t s registers words en et es eg =
 
 -- ELEMENTS of slices fit their width
 pub elements-lent : (b : Board) (reads writes : Slices) → Elements 8 (reads .u8) → Elements 16 (reads .u16) → Elements 32 (reads .u32)
-    → Elements 8 (writes .u8) → Elements 16 (writes .u16) → Elements 32 (writes .u32) → Elements (bits (startOf b reads writes)) (started (startOf b reads writes))
+    → Elements 8 (writes .u8) → Elements 16 (writes .u16) → Elements 32 (writes .u32) → Elements (elementBits (startOf b reads writes)) (started (startOf b reads writes))
 elements-lent b reads writes a₁ a₂ a₃ b₁ b₂ b₃ = by-place (b .inplace) (by-width (b .width) reads a₁ a₂ a₃) (by-width (b .width) writes b₁ b₂ b₃)
   where
     by-width : (w : Width) (s : Slices) → Elements 8 (s .u8) → Elements 16 (s .u16) → Elements 32 (s .u32) → Elements (widthBits w) (pick w s)
@@ -145,7 +141,7 @@ elements-lent b reads writes a₁ a₂ a₃ b₁ b₂ b₃ = by-place (b .inplac
     by-place false x y = y
 
 -- DEMAND 3 of what the code holds
-pub agreement-left : (g a : Start) → unfit g a ≡ false → Elements (bits g) (started g) → Elements (bits a) (started a) → (bytes : List ℕ) (x y : Seen) (gateBuffer antennaBuffer : List ℕ)
+pub agreement-left : (g a : Start) → unfit g a ≡ false → Elements (elementBits g) (started g) → Elements (elementBits a) (started a) → (bytes : List ℕ) (x y : Seen) (gateBuffer antennaBuffer : List ℕ)
     → x ≡ seen (pairAfter g a (eventsOf bytes) .gate) → y ≡ seen (pairAfter g a (eventsOf bytes) .antenna)
     → gateBuffer ≡ bufferOf g (pairAfter g a (eventsOf bytes) .gate) → antennaBuffer ≡ bufferOf a (pairAfter g a (eventsOf bytes) .antenna)
     → Agreement g a (eventsOf bytes) x y gateBuffer antennaBuffer
@@ -160,9 +156,6 @@ agreement-left g a fits small-g small-a bytes x y gb ab ex ey eg ea =
 -- WHAT IS LEFT
 pub state-left : {st st′ : Station} {gs gs′ : List ℕ} → st ≡ st′ → gs ≡ gs′ → stationSeen st gs ≡ stationSeen st′ gs′
 state-left a b = ap₂ stationSeen a b
-
-pub fresh-pair : {x x′ y y′ : End} → x ≡ x′ → y ≡ y′ → pair x y ≡ pair x′ y′
-fresh-pair a b = ap₂ pair a b
 
 left-eq : {n n′ : ℕ} {x x′ y y′ : Seen} {g g′ a a′ : Slices} → n ≡ n′ → x ≡ x′ → y ≡ y′ → g ≡ g′ → a ≡ a′
     → _≡_ {A = TrialLeft} (record { number = n; gate = x; antenna = y; gateReads = g; antennaReads = a }) (record { number = n′; gate = x′; antenna = y′; gateReads = g′; antennaReads = a′ })

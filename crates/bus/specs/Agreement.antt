@@ -1,34 +1,34 @@
 -- DEMAND 3 (document 01, The bus): one statement about a whole list of events from fresh, of any length.
 -- Assumes nothing.
 use Prim.Native.Nat.{ℕ, _+_, _^_, _<_}
-use mathlib.Core.Bool.{Bool, true}
+use mathlib.Core.Bool.{true}
 use mathlib.Core.List.{List, [], _∷_, _++_}
 use mathlib.Core.Path.{_≡_}
 use lib.ListN.{length, getD}
 use Rattle.words.specs.Buffer.{dummy, unpackWords}
 use Rattle.words.specs.Word.{laid}
-use Rattle.machine.specs.declared.access.Access.the-variants.{Done}
-use Rattle.machine.specs.declared.access.Ending.the-variants.{Ok}
+use Rattle.sequences.specs.declared.access.Access.the-variants.{Done}
+use Rattle.sequences.specs.declared.access.Ending.the-variants.{Ok}
 use Rattle.machine.specs.declared.flush.Flush.{Flush}
 use Rattle.machine.specs.declared.transfer.Transfer.{Transfer}
 use Rattle.machine.specs.Flush.{flushAccess}
 use Rattle.machine.specs.Transfer.{dueAccess}
 use Rattle.bus.specs.declared.event.Event.{Event}
 use Rattle.bus.specs.declared.event.Event.the-variants.{Step, Clock, Noise}
-use Rattle.bus.specs.declared.event.Side.{Side}
 use Rattle.bus.specs.declared.event.Side.the-variants.{Gate, Antenna}
-use Rattle.bus.specs.Start.{Start, bits, total, started, accepted}
+use Rattle.bus.specs.Start.{Start, elementBits, total, started, accepted}
 use Rattle.bus.specs.End.{Wire, End}
 use Rattle.bus.specs.Events.{pairAfter}
 use Rattle.bus.specs.Tally.{tally}
 
--- what can be seen of an end
+-- what can be seen of an end: all but the words received, which its read buffer shows
 pub record Seen : Type 0 where
   pub transfer : Transfer
   pub flush : Flush
   pub wire : Wire
   pub registers : List ℕ
 
+-- of an end as the definitions have it
 abbrev pub seen : End → Seen
 seen x = record { transfer = x .transfer; flush = x .flush; wire = x .wire; registers = x .registers }
 
@@ -38,12 +38,13 @@ OkTwice x = (dueAccess (x .transfer) ≡ Done Ok) × (flushAccess (x .flush) ≡
 
 -- an end's read buffer: the elements of the words received so far over what it held at fresh
 abbrev pub bufferOf : Start → End → List ℕ
-bufferOf s x = laid (unpackWords (s .board .driver .order) (bits s) (total s) (x .received)) (s .read)
+bufferOf s x = laid (unpackWords (s .board .driver .order) (elementBits s) (total s) (x .received)) (s .read)
 
 -- place i of a read buffer equals element i that the other end started with, or the width's DUMMY where that end had no more
 abbrev pub Holds : Start → Start → List ℕ → Type 0
-Holds mine theirs buffer = (i : ℕ) → i < length (mine .read) → getD buffer i 0 ≡ getD (started theirs) i (dummy (bits mine))
+Holds mine theirs buffer = (i : ℕ) → i < length (mine .read) → getD buffer i 0 ≡ getD (started theirs) i (dummy (elementBits mine))
 
+-- both queues of an end are empty
 pub record Emptied (x : Seen) : Type 0 where
   pub transmit : x .wire .transmit ≡ []
   pub receive : x .wire .receive ≡ []

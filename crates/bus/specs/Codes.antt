@@ -22,6 +22,7 @@ eventOf byte =
     (cond (eqb n 6) (Noise Gate Rx)
     (cond (eqb n 7) (Noise Antenna Tx) (Noise Antenna Rx))))))))
 
+-- a list of events
 abbrev pub eventsOf : List ℕ → List Event
 eventsOf [] = []
 eventsOf (b ∷ bs) = eventOf b ∷ eventsOf bs

@@ -7,12 +7,12 @@ use mathlib.Core.List.{List, [], _∷_, _++_}
 use mathlib.Core.Path.{_≡_}
 use lib.Dec.{ltb}
 use lib.ListN.{length}
-use Rattle.machine.specs.declared.access.Access.{Access}
+use Rattle.sequences.specs.declared.access.Access.{Access}
 use Rattle.machine.specs.declared.flush.Flush.the-variants.{Status}
 use Rattle.machine.specs.declared.transfer.Transfer.{Transfer}
 use Rattle.machine.specs.Flush.{flushAccess, flushed}
 use Rattle.machine.specs.Transfer.{dueAccess, resumed}
-use Rattle.runs.specs.Run.{Logged, codeOf, valueOf, ended, start, run, noWords}
+use Rattle.runs.specs.Run.{Logged, writeMark, codeOf, valueOf, ended, start, run, noWords}
 use Rattle.bus.specs.declared.event.Event.{Event}
 use Rattle.bus.specs.declared.event.Event.the-variants.{Step, Clock, Noise}
 use Rattle.bus.specs.declared.event.Side.{Side}
@@ -52,8 +52,9 @@ module _ (g a : Job) where
 
 -- "the answers it has had": the values of the reads in a log (a write's offset has 1000 hexadecimal added)
 abbrev pub answerIn : Logged → List ℕ
-answerIn l = cond (ltb (l .at) 0x1000) (l .value ∷ []) []
+answerIn l = cond (ltb (l .at) writeMark) (l .value ∷ []) []
 
+-- of a whole log, in order
 unfoldable pub answersIn : List Logged → List ℕ
 answersIn [] = []
 answersIn (l ∷ log) = answerIn l ++ answersIn log
@@ -77,11 +78,14 @@ pub record Course (j : Job) (t : Transfer) (x : End) (log : List Logged) : Type 
   -- "and then": the flush makes no access before the transfer has answered
   pub turn : 0 < length flushLog → ended (dueAccess (x .transfer)) ≡ true
 
--- OF EITHER END, after a list of events from fresh
-abbrev pub startOf : Side → Start → Start → Start
-startOf Gate g a = g
-startOf Antenna g a = a
+-- OF EITHER END
 
+-- what the end at a side starts with
+abbrev pub startAt : Side → Start → Start → Start
+startAt Gate g a = g
+startAt Antenna g a = a
+
+-- after a list of events from fresh
 abbrev pub CourseOf : Side → Start → Start → List Event → Type 0
 CourseOf s g a vs =
-    Course (job (startOf s g a)) (transferOf (startOf s g a)) (atSide s (pairAfter g a vs)) (logOf (job g) (job a) s (freshPair g a) vs)
+    Course (job (startAt s g a)) (transferOf (startAt s g a)) (atSide s (pairAfter g a vs)) (logOf (job g) (job a) s (freshPair g a) vs)

@@ -16,8 +16,8 @@ use Rattle.manual.specs.Manual.{offsetOf, readField, setAll}
 use Rattle.words.specs.declared.transaction.Direction.{Direction}
 use Rattle.words.specs.declared.transaction.Direction.the-variants.{Tx, Rx}
 use Rattle.words.specs.Command.{flagOf}
-use Rattle.machine.specs.declared.access.Access.{Access}
-use Rattle.machine.specs.declared.access.Access.the-variants.{Read, Write, Send, Receive, Done}
+use Rattle.sequences.specs.declared.access.Access.{Access}
+use Rattle.sequences.specs.declared.access.Access.the-variants.{Read, Write, Send, Receive, Done}
 use Rattle.machine.specs.declared.flush.Flush.{Flush}
 use Rattle.machine.specs.declared.flush.Flush.the-variants.{Status}
 use Rattle.machine.specs.declared.transfer.Transfer.{Transfer}
@@ -30,12 +30,14 @@ use Rattle.bus.specs.Start.{Start, Job, transferOf}
 
 -- QUEUES AND FLAGS
 
+-- "transmit and receive queues of 2^e words, flags T and R": the first word of a queue stands first
 pub record Wire : Type 0 where
   pub transmit : List ℕ
   pub receive : List ℕ
   pub t : Bool
   pub r : Bool
 
+-- other queues, the flags kept
 abbrev pub queues : List ℕ → List ℕ → Wire → Wire
 queues transmit receive w = record { transmit = transmit; receive = receive; t = w .t; r = w .r }
 
@@ -65,10 +67,12 @@ abbrev pub front : List ℕ → ℕ
 front [] = 0
 front (v ∷ queue) = v
 
+-- the words behind the first
 abbrev pub behind : List ℕ → List ℕ
 behind [] = []
 behind (v ∷ queue) = queue
 
+-- "empty their queue", where the test says so
 abbrev pub emptiedIf : Bool → List ℕ → List ℕ
 emptiedIf b queue = cond b [] queue
 
@@ -107,6 +111,7 @@ showsBy e busy w sends held = held
 showsBy e busy w receives held = front (w .receive)
 showsBy e busy w holds held = held
 
+-- of a register: what it shows by its role, or holds
 abbrev pub shows : ℕ → Bool → Wire → List ℕ → Register → ℕ
 shows e busy w registers r = showsBy e busy w (roleOf r) (getD registers (placeOf r) 0)
 
@@ -161,6 +166,7 @@ wireAfter e word (Send i) w = writtenBy e (roleOf TDR) (word i) w
 wireAfter e word (Receive i) w = readBy (roleOf RDR) w
 wireAfter e word (Done x) w = w
 
+-- a write to TDR changes none of those held
 abbrev pub registersAfter : (ℕ → ℕ) → Access → List ℕ → List ℕ
 registersAfter word (Read r) registers = registers
 registersAfter word (Write r v) registers = heldBy (roleOf r) (placeOf r) v registers
@@ -170,24 +176,27 @@ registersAfter word (Done x) registers = registers
 
 -- AN END
 
+-- its transfer, its flush, the FIFO words received, queues and flags, and 30 registers by offset / 4
 pub record End : Type 0 where
   pub transfer : Transfer
   pub flush : Flush
-  -- the FIFO words received so far
   pub received : List ℕ
   pub wire : Wire
   pub registers : List ℕ
 
+-- an end, of its parts
 abbrev pub end : Transfer → Flush → List ℕ → Wire → List ℕ → End
 end t f received w registers = record { transfer = t; flush = f; received = received; wire = w; registers = registers }
 
--- fresh: queues empty, flags clear, CR 1, other registers but PARAM 0
+-- "Fresh: queues empty, flags clear"
 abbrev pub freshWire : Wire
 freshWire = record { transmit = []; receive = []; t = false; r = false }
 
+-- "CR 1, other registers but PARAM 0" (PARAM shows the exponent)
 abbrev pub freshRegisters : List ℕ
 freshRegisters = set (replicate 30 0) (placeOf CR) 1
 
+-- an end at fresh
 abbrev pub freshEnd : Start → End
 freshEnd s = end (transferOf s) Status [] freshWire freshRegisters
 
@@ -199,12 +208,13 @@ firstDue (Send i) later = Send i
 firstDue (Receive i) later = Receive i
 firstDue (Done x) later = later
 
+-- the access that is due of an end
 abbrev pub endAccess : Transfer → Flush → Access
 endAccess t f = firstDue (dueAccess t) (flushAccess f)
 
 -- the end after the access a, which was answered v; a transfer that has ended stays, and so does a flush
-abbrev pub afterAccess : Job → Access → ℕ → End → End
-afterAccess j a v x =
+abbrev pub endAfter : Job → Access → ℕ → End → End
+endAfter j a v x =
     let word = j .words (x .received) in
     end (resumed (x .transfer) (answerOf a v)) (cond (ended (dueAccess (x .transfer))) (flushed (x .flush) (answerOf a v)) (x .flush))
     (receivedAfter a v (x .received)) (wireAfter (j .exponent) word a (x .wire)) (registersAfter word a (x .registers))
@@ -213,4 +223,4 @@ afterAccess j a v x =
 unfoldable pub stepped : Job → Bool → End → End
 stepped j busy x =
     let a = endAccess (x .transfer) (x .flush) in
-    afterAccess j a (answerTo (j .exponent) busy (x .wire) (x .registers) a) x
+    endAfter j a (answerTo (j .exponent) busy (x .wire) (x .registers) a) x

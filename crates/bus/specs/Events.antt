@@ -1,9 +1,7 @@
 -- The pair and its events (document 01, The bus).
 -- Assumes nothing.
 use Prim.Native.Nat.{ℕ}
-use mathlib.Core.Bool.{Bool}
 use mathlib.Core.List.{List, [], _∷_}
-use Rattle.words.specs.declared.transaction.Direction.{Direction}
 use Rattle.words.specs.declared.transaction.Direction.the-variants.{Tx}
 use Rattle.bus.specs.declared.event.Event.{Event}
 use Rattle.bus.specs.declared.event.Event.the-variants.{Step, Clock, Noise}
@@ -12,17 +10,21 @@ use Rattle.bus.specs.declared.event.Side.the-variants.{Gate, Antenna}
 use Rattle.bus.specs.Start.{Start, Job, job}
 use Rattle.bus.specs.End.{Wire, queues, raised, arrived, End, end, freshEnd, stepped}
 
+-- two ends: the gate clocks, the antenna replies
 pub record Pair : Type 0 where
   pub gate : End
   pub antenna : End
 
+-- a pair, of its ends
 abbrev pub pair : End → End → Pair
 pair g a = record { gate = g; antenna = a }
 
+-- the end at a side
 abbrev pub atSide : Side → Pair → End
 atSide Gate p = p .gate
 atSide Antenna p = p .antenna
 
+-- an end of which only queues and flags change
 abbrev pub rewired : (Wire → Wire) → End → End
 rewired f x = end (x .transfer) (x .flush) (x .received) (f (x .wire)) (x .registers)
 
@@ -50,6 +52,7 @@ module _ (g a : Job) where
   after p [] = p
   after p (v ∷ vs) = after (happened p v) vs
 
+-- both ends at fresh
 abbrev pub freshPair : Start → Start → Pair
 freshPair g a = pair (freshEnd g) (freshEnd a)
 

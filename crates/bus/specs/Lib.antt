@@ -6,6 +6,8 @@ pub mod Course
 pub mod Tally
 pub mod Agreement
 pub mod Codes
+pub mod View
+pub mod Trial
+-- only private contracts cite these
 pub mod Begin
 pub mod Held
-pub mod Trial

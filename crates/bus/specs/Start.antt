@@ -18,11 +18,12 @@ pub record Start : Type 0 where
   pub write : List ℕ
 
 -- the bits of an element
-abbrev pub bits : Start → ℕ
-bits s = widthBits (s .board .width)
+abbrev pub elementBits : Start → ℕ
+elementBits s = widthBits (s .board .width)
 
+-- its transfer's words and total length: a separate or an in-place exchange
 abbrev pub plan : Start → Plan
-plan s = cond (s .board .inplace) (inPlacePlan (bits s) (s .board .driver) (s .read)) (separatePlan (bits s) (s .board .driver) (s .read) (s .write))
+plan s = cond (s .board .inplace) (inPlacePlan (elementBits s) (s .board .driver) (s .read)) (separatePlan (elementBits s) (s .board .driver) (s .read) (s .write))
 
 -- what an end started with
 abbrev pub started : Start → List ℕ
@@ -33,36 +34,39 @@ abbrev pub total : Start → ℕ
 total s = plan s .total
 
 -- the FIFO words each way
-abbrev pub wordsOf : Start → ℕ
-wordsOf s = wordCount (bits s) (total s)
+abbrev pub frameWords : Start → ℕ
+frameWords s = wordCount (elementBits s) (total s)
 
 -- the frame size is accepted; an empty frame counts as accepted
 abbrev pub accepted : Start → Bool
-accepted s = eqb (total s) 0 || frameAccepted (bits s * total s)
+accepted s = eqb (total s) 0 || frameAccepted (elementBits s * total s)
 
--- number 9: a FIFO exponent over 4, or unequal width, order or total length
+-- two numbers differ
 abbrev pub unequal : ℕ → ℕ → Bool
 unequal m n = not (eqb m n)
 
-abbrev pub unfit : Start → Start → Bool
-unfit g a =
-    ltb 4 (g .board .exponent)
-    || (ltb 4 (a .board .exponent)
-    || (unequal (bits g) (bits a)
-    || (unequal (lsbfOf (g .board .driver .order)) (lsbfOf (a .board .driver .order))
-    || unequal (total g) (total a))))
+-- number 9, of the total lengths: "a FIFO exponent over 4, or unequal width, order or total length"
+abbrev pub unfitBy : Board → Board → ℕ → ℕ → Bool
+unfitBy g a gateTotal antennaTotal =
+    ltb 4 (g .exponent)
+    || (ltb 4 (a .exponent)
+    || (unequal (widthBits (g .width)) (widthBits (a .width))
+    || (unequal (lsbfOf (g .driver .order)) (lsbfOf (a .driver .order))
+    || unequal gateTotal antennaTotal)))
 
-abbrev pub pairNumber : Start → Start → ℕ
-pairNumber g a = cond (unfit g a) 9 0
+-- number 9
+abbrev pub unfit : Start → Start → Bool
+unfit g a = unfitBy (g .board) (a .board) (total g) (total a)
 
 -- what an end goes by: its FIFO exponent, and the word that it sends at a place, by the words received so far
 pub record Job : Type 0 where
   pub exponent : ℕ
   pub words : List ℕ → ℕ → ℕ
 
+-- of a board: FIFOs of its exponent, and its plan's words
 abbrev pub job : Start → Job
 job s = record { exponent = s .board .exponent; words = plan s .words }
 
 -- its transfer: empty test, frame size, or the start
 abbrev pub transferOf : Start → Transfer
-transferOf s = begun (bits s) (s .board .driver) (plan s)
+transferOf s = begun (elementBits s) (s .board .driver) (plan s)

@@ -5,8 +5,8 @@ use Prim.Native.Nat.{ℕ, suc}
 use mathlib.Core.Bool.{Bool, true, false, not, _&&_}
 use mathlib.Core.List.{List, [], _∷_}
 use Rattle.manual.specs.declared.Register.the-variants.{TDR}
-use Rattle.machine.specs.declared.access.Access.{Access}
-use Rattle.machine.specs.declared.access.Access.the-variants.{Read, Write, Send, Receive, Done}
+use Rattle.sequences.specs.declared.access.Access.{Access}
+use Rattle.sequences.specs.declared.access.Access.the-variants.{Read, Write, Send, Receive, Done}
 use Rattle.bus.specs.declared.event.Event.{Event}
 use Rattle.bus.specs.declared.event.Event.the-variants.{Step, Clock, Noise}
 use Rattle.bus.specs.declared.event.Side.{Side}
@@ -17,14 +17,17 @@ use Rattle.bus.specs.Start.{Start, Job, job}
 use Rattle.bus.specs.End.{Wire, End, roleOf, full, endAccess}
 use Rattle.bus.specs.Events.{Pair, happened, freshPair}
 
+-- words lost, words made up, and times that a flag was set
 pub record Tally : Type 0 where
   pub lost : ℕ
   pub madeUp : ℕ
   pub flags : ℕ
 
-abbrev pub none : Tally
-none = record { lost = 0; madeUp = 0; flags = 0 }
+-- before any event
+abbrev pub nothing : Tally
+nothing = record { lost = 0; madeUp = 0; flags = 0 }
 
+-- one more, where the test says so
 abbrev pub up : Bool → ℕ → ℕ
 up true n = suc n
 up false n = n
@@ -33,9 +36,10 @@ up false n = n
 abbrev pub noted : Bool → Bool → Bool → Tally → Tally
 noted lost madeUp noise y = record { lost = up lost (y .lost); madeUp = up madeUp (y .madeUp); flags = up lost (up madeUp (up noise (y .flags))) }
 
-abbrev pub some : List ℕ → Bool
-some [] = false
-some (v ∷ queue) = true
+-- a queue has a word to send
+abbrev pub waiting : List ℕ → Bool
+waiting [] = false
+waiting (v ∷ queue) = true
 
 -- a write to TDR onto a full queue
 abbrev pub overrunBy : Role → ℕ → Wire → Bool
@@ -47,6 +51,7 @@ overrunBy sends e w = full e (w .transmit)
 overrunBy receives e w = false
 overrunBy holds e w = false
 
+-- an access that is one
 abbrev pub overrun : ℕ → Access → Wire → Bool
 overrun e (Read r) w = false
 overrun e (Write r v) w = overrunBy (roleOf r) e w
@@ -54,26 +59,29 @@ overrun e (Send i) w = overrunBy (roleOf TDR) e w
 overrun e (Receive i) w = false
 overrun e (Done x) w = false
 
+-- a step whose access is one
 abbrev pub stepOverruns : Job → End → Bool
 stepOverruns j x = overrun (j .exponent) (endAccess (x .transfer) (x .flush)) (x .wire)
 
 module _ (g a : Job) where
-  -- a clock with a word to send loses the word that arrives at a full queue; the antenna makes one up where it has none
+  -- of one event, at the gate: a clock with a word to send loses the word that arrives at a full queue; the antenna makes one up where it has none
   abbrev pub gateNotes : Pair → Event → Tally → Tally
   gateNotes p (Step Gate busy) y = noted (stepOverruns g (p .gate)) false false y
   gateNotes p (Step Antenna busy) y = y
-  gateNotes p Clock y = noted (some (p .gate .wire .transmit) && full (g .exponent) (p .gate .wire .receive)) false false y
+  gateNotes p Clock y = noted (waiting (p .gate .wire .transmit) && full (g .exponent) (p .gate .wire .receive)) false false y
   gateNotes p (Noise Gate d) y = noted false false true y
   gateNotes p (Noise Antenna d) y = y
 
+  -- of one event, at the antenna
   abbrev pub antennaNotes : Pair → Event → Tally → Tally
   antennaNotes p (Step Gate busy) y = y
   antennaNotes p (Step Antenna busy) y = noted (stepOverruns a (p .antenna)) false false y
   antennaNotes p Clock y =
-      noted (some (p .gate .wire .transmit) && full (a .exponent) (p .antenna .wire .receive)) (some (p .gate .wire .transmit) && not (some (p .antenna .wire .transmit))) false y
+      noted (waiting (p .gate .wire .transmit) && full (a .exponent) (p .antenna .wire .receive)) (waiting (p .gate .wire .transmit) && not (waiting (p .antenna .wire .transmit))) false y
   antennaNotes p (Noise Gate d) y = y
   antennaNotes p (Noise Antenna d) y = noted false false true y
 
+  -- at either end
   abbrev pub notes : Side → Pair → Event → Tally → Tally
   notes Gate = gateNotes
   notes Antenna = antennaNotes
@@ -85,4 +93,4 @@ module _ (g a : Job) where
 
 -- from fresh
 abbrev pub tally : Side → Start → Start → List Event → Tally
-tally s g a vs = tallied (job g) (job a) s none (freshPair g a) vs
+tally s g a vs = tallied (job g) (job a) s nothing (freshPair g a) vs

@@ -1,22 +1,18 @@
 -- THE PAIR ENTRY: two boards, the slices that they are lent, and events as bytes. A board's width picks its buffers.
 -- Assumes nothing.
 use Prim.Native.Nat.{ℕ}
-use mathlib.Core.Bool.{false, cond}
-use mathlib.Core.Path.{_≡_}
+use mathlib.Core.Bool.{cond}
 use mathlib.Core.List.{List}
 use Rattle.words.specs.declared.width.Width.{Width}
 use Rattle.words.specs.declared.width.Width.the-variants.{U8, U16, U32}
 use Rattle.bus.specs.declared.board.Board.{Board}
-use Rattle.bus.specs.declared.trial.EndState.{EndState}
 use Rattle.bus.specs.declared.trial.Outcome.{Outcome}
-use Rattle.bus.specs.declared.clock.Pair.{Pair as Stations}
-use Rattle.bus.specs.declared.station.Station.{Station}
-use Rattle.bus.specs.Start.{Start, total, unfit}
+use Rattle.bus.specs.Start.{Start, unfit}
 use Rattle.bus.specs.End.{freshEnd}
-use Rattle.bus.specs.Events.{pair, freshPair, pairAfter}
+use Rattle.bus.specs.Events.{pairAfter}
 use Rattle.bus.specs.Agreement.{Seen, seen, bufferOf}
 use Rattle.bus.specs.Codes.{eventsOf}
-use Rattle.bus.specs.Held.{wireOf, Roomy, endOf}
+use Rattle.bus.specs.View.{stateOf}
 
 -- one slice a width
 pub record Slices : Type 0 where
@@ -24,20 +20,23 @@ pub record Slices : Type 0 where
   pub u16 : List ℕ
   pub u32 : List ℕ
 
+-- of their contents
 abbrev pub slices : List ℕ → List ℕ → List ℕ → Slices
 slices a b c = record { u8 = a; u16 = b; u32 = c }
 
+-- the slice of a width
 abbrev pub pick : Width → Slices → List ℕ
 pick U8 s = s .u8
 pick U16 s = s .u16
 pick U32 s = s .u32
 
--- slices of other widths are always as found
+-- another slice of that width; those of other widths are always as found
 abbrev pub placed : Width → List ℕ → Slices → Slices
 placed U8 xs s = slices xs (s .u16) (s .u32)
 placed U16 xs s = slices (s .u8) xs (s .u32)
 placed U32 xs s = slices (s .u8) (s .u16) xs
 
+-- a board with its slices, at fresh
 abbrev pub startOf : Board → Slices → Slices → Start
 startOf b reads writes = record { board = b; read = pick (b .width) reads; write = pick (b .width) writes }
 
@@ -49,13 +48,7 @@ pub record TrialLeft : Type 0 where
   pub gateReads : Slices
   pub antennaReads : Slices
 
--- a state as the code holds it
-abbrev pub stationSeen : Station → List ℕ → Seen
-stationSeen s registers = record { transfer = s .transfer; flush = s .flush; wire = wireOf (s .port); registers = registers }
-
-abbrev pub stateOf : EndState → Seen
-stateOf x = stationSeen (x .station) (x .registers)
-
+-- what the code answers, with the read slices at exit
 abbrev pub trialLeft : Outcome → Slices → Slices → TrialLeft
 trialLeft r gateReads antennaReads =
     record { number = r .number; gate = stateOf (r .gate); antenna = stateOf (r .antenna); gateReads = gateReads; antennaReads = antennaReads }
@@ -74,26 +67,3 @@ trialOf g a gateReads gateWrites antennaReads antennaWrites events =
       gateReads = placed (g .width) (bufferOf s (p .gate)) gateReads;
       antennaReads = placed (a .width) (bufferOf t (p .antenna)) antennaReads;
     })
-
--- BOARDS THAT FIT, ready for their exchange (private contracts cite it)
-pub record Ready (g a : Board) (gateTotal antennaTotal : ℕ) (ends : Stations) (gateReads gateWrites antennaReads antennaWrites : Slices) (gateRegisters antennaRegisters : List ℕ) : Type 0 where
-  pub gate : gateTotal ≡ total (startOf g gateReads gateWrites)
-  pub antenna : antennaTotal ≡ total (startOf a antennaReads antennaWrites)
-  pub fits : unfit (startOf g gateReads gateWrites) (startOf a antennaReads antennaWrites) ≡ false
-  pub gatePort : Roomy (ends .gate .port)
-  pub antennaPort : Roomy (ends .antenna .port)
-  pub gateNone : ends .gate .received ≡ 0
-  pub antennaNone : ends .antenna .received ≡ 0
-  pub fresh : (gateWords antennaWords : List ℕ)
-      → pair (endOf (ends .gate) gateWords gateRegisters) (endOf (ends .antenna) antennaWords antennaRegisters)
-      ≡ freshPair (startOf g gateReads gateWrites) (startOf a antennaReads antennaWrites)
-
--- what it leaves
-pub record Exchanged (g a : Board) (gateReads gateWrites antennaReads antennaWrites : Slices) (events : List ℕ) (ends : Stations) (gateRegisters antennaRegisters : List ℕ)
-    (gateLeft antennaLeft : Slices) : Type 0 where
-  pub gate : stationSeen (ends .gate) gateRegisters ≡ seen (pairAfter (startOf g gateReads gateWrites) (startOf a antennaReads antennaWrites) (eventsOf events) .gate)
-  pub antenna : stationSeen (ends .antenna) antennaRegisters ≡ seen (pairAfter (startOf g gateReads gateWrites) (startOf a antennaReads antennaWrites) (eventsOf events) .antenna)
-  pub gateBuffer : gateLeft
-      ≡ placed (g .width) (bufferOf (startOf g gateReads gateWrites) (pairAfter (startOf g gateReads gateWrites) (startOf a antennaReads antennaWrites) (eventsOf events) .gate)) gateReads
-  pub antennaBuffer : antennaLeft
-      ≡ placed (a .width) (bufferOf (startOf a antennaReads antennaWrites) (pairAfter (startOf g gateReads gateWrites) (startOf a antennaReads antennaWrites) (eventsOf events) .antenna)) antennaReads

@@ -2,19 +2,18 @@
 ghost use Prim.Native.Nat.{ℕ};
 ghost use mathlib.Core.List.{List, []};
 ghost use mathlib.Core.Path.{_≡_};
-ghost use Rattle.words.specs.Command.{lsbfOf};
 ghost use Rattle.words.specs.Width.{widthBits};
 ghost use Rattle.bus.specs.End.{end, freshWire, freshRegisters};
-ghost use Rattle.bus.specs.Begin.{totalBy, begunBy, unfitBy};
+ghost use Rattle.bus.specs.Begin.{totalBy, begunBy};
+ghost use Rattle.bus.specs.Start.{unfitBy};
 ghost use Rattle.bus.specs.Held.{Roomy, endOf};
 use crate::board::Board;
 use crate::port::Port;
 use crate::station::Station;
-use machine::access::Ending;
-use machine::driver::Lpspi;
 use machine::flush::Flush;
 use machine::transfer::Transfer;
-use words::order::BitOrder;
+use sequences::access::Ending;
+use sequences::driver::Lpspi;
 use words::transaction::LpspiError;
 use words::transaction::Transaction;
 use words::transaction::TransactionResult;
@@ -33,17 +32,6 @@ pub(crate) fn total_of(inplace: bool, read: usize, write: usize) -> usize
     read
 }
 
-// The bits of an element.
-pub(crate) fn bits(width: Width) -> usize
-    ensures { λ r. ⌜ r ≡ widthBits width ⌝ }
-{
-    match width {
-        Width::U8 => 8,
-        Width::U16 => 16,
-        Width::U32 => 32,
-    }
-}
-
 // The transfer: empty test, frame size, or the start.
 pub(crate) fn start(driver: Lpspi, width: Width, total: usize) -> Transfer
     ensures { λ r. ⌜ r ≡ begunBy (widthBits width) driver total ⌝ }
@@ -51,23 +39,11 @@ pub(crate) fn start(driver: Lpspi, width: Width, total: usize) -> Transfer
     if total == 0 {
         return Transfer::ended(driver, Ending::Ok);
     }
-    if 512 < total {
-        return Transfer::ended(driver, Ending::Err(LpspiError::FrameSize));
-    }
-    let TransactionResult::Ok(transaction) = Transaction::new((bits(width) * total) as u16) else {
+    let TransactionResult::Ok(transaction) = Transaction::new_words(width, total) else {
         return Transfer::ended(driver, Ending::Err(LpspiError::FrameSize));
     };
     let n = width.word_count(total);
     Transfer::start(driver, driver.bus_transaction(transaction), n, n)
-}
-
-fn lsb(order: BitOrder) -> u32
-    ensures { λ r. ⌜ r ≡ lsbfOf order ⌝ }
-{
-    match order {
-        BitOrder::Msb => 0,
-        BitOrder::Lsb => 1,
-    }
 }
 
 // The pair's refusal, of the total lengths.
@@ -82,12 +58,12 @@ pub(crate) fn is_unfit(gate: Board, antenna: Board, gate_total: usize, antenna_t
     }
     let gate_width = gate.width;
     let antenna_width = antenna.width;
-    if bits(gate_width) != bits(antenna_width) {
+    if gate_width.bits() != antenna_width.bits() {
         return true;
     }
     let gate_driver = gate.driver;
     let antenna_driver = antenna.driver;
-    if lsb(gate_driver.bit_order()) != lsb(antenna_driver.bit_order()) {
+    if gate_driver.bit_order().lsbf() != antenna_driver.bit_order().lsbf() {
         return true;
     }
     gate_total != antenna_total

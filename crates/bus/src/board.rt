@@ -1,5 +1,5 @@
 // A board at one end of the bus.
-use machine::driver::Lpspi;
+use sequences::driver::Lpspi;
 use words::width::Width;
 
 pub struct Board {

@@ -1,5 +1,4 @@
 // The slices of a board: its width picks them.
-ghost use Prim.Native.Nat.{ℕ};
 ghost use mathlib.Core.Path.{_≡_};
 ghost use lib.ListN.{length};
 ghost use Rattle.words.specs.Buffer.{packWords, unpackWords};

@@ -3,12 +3,12 @@ ghost use mathlib.Core.Path.{_≡_};
 ghost use Rattle.bus.specs.Codes.{eventOf};
 use words::transaction::Direction;
 
-pub enum Side {
+pub(crate) enum Side {
     Gate,
     Antenna,
 }
 
-pub enum Event {
+pub(crate) enum Event {
     // The next access of an end, and the busy bit that SR would show.
     Step(Side, bool),
     // A word each way.

@@ -1,14 +1,15 @@
 // A FIFO of at most 16 words; the first stands at place 0.
-ghost use Prim.Native.Nat.{_<_};
+ghost use Prim.Native.Nat.{_<_, _≤_};
 ghost use mathlib.Core.List.{[], _∷_, _++_};
 ghost use mathlib.Core.Path.{_≡_};
-ghost use lib.ListN.{length, take, drop};
+ghost use lib.ListN.{length, getD, take, drop};
 ghost use Rattle.bus.specs.End.{front, behind};
-ghost use Rattle.bus.specs.Held.{queueOf, Sized};
+ghost use Rattle.bus.specs.View.{queueOf};
+ghost use Rattle.bus.specs.Held.{Sized};
 
 pub struct Fifo {
-    pub words: [u32; 16],
-    pub count: usize,
+    pub(crate) words: [u32; 16],
+    pub(crate) count: usize,
 }
 
 // Each word one place further to the front.
@@ -23,7 +24,58 @@ fn shifted(words: [u32; 16]) -> [u32; 16]
     out
 }
 
+// How many of its places a FIFO counts, and the word at a place of those.
+fn counted(words: &[u32], count: usize) -> usize
+    requires { ⌜ length (now words) ≡ 16 ⌝ }
+    ensures { λ r. ⌜ (r ≡ length (take count (now (words .entry)))) × (r ≤ 16) ⌝ }
+{
+    if count < words.len() {
+        return count;
+    }
+    words.len()
+}
+
+fn count_in(words: &[u32; 16], count: usize) -> usize
+    ensures { λ r. ⌜ (r ≡ length (take count (now (words .entry)))) × (r ≤ 16) ⌝ }
+{
+    counted(words, count)
+}
+
+fn word_at(words: &[u32], count: usize, place: usize) -> u32
+    ensures { λ r. ⌜ r ≡ getD (take count (now (words .entry))) place 0 ⌝ }
+{
+    if count <= place {
+        return 0;
+    }
+    if words.len() <= place {
+        return 0;
+    }
+    words[place]
+}
+
+fn word_in(words: &[u32; 16], count: usize, place: usize) -> u32
+    ensures { λ r. ⌜ r ≡ getD (take count (now (words .entry))) place 0 ⌝ }
+{
+    word_at(words, count, place)
+}
+
 impl Fifo {
+    // The words queued: at most 16.
+    pub fn len(self) -> usize
+        ensures { λ r. ⌜ (r ≡ length (queueOf self)) × (r ≤ 16) ⌝ }
+    {
+        let words = self.words;
+        count_in(&words, self.count)
+    }
+
+    // The word queued at a place, the first at 0; 0 where there is none.
+    pub fn word(self, place: usize) -> u32
+        ensures { λ r. ⌜ r ≡ getD (queueOf self) place 0 ⌝ }
+    {
+        let words = self.words;
+        word_in(&words, self.count, place)
+    }
+
     pub(crate) fn new() -> Self
         ensures { λ r. ⌜ Sized r × (queueOf r ≡ []) ⌝ }
     {

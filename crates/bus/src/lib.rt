@@ -3,7 +3,7 @@ mod begin;
 pub mod board;
 mod buffers;
 mod clock;
-pub mod event;
+mod event;
 pub mod fifo;
 pub mod port;
 mod register;

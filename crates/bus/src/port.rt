@@ -2,9 +2,9 @@
 ghost use Prim.Native.Nat.{_^_, _≤_};
 ghost use mathlib.Core.Bool.{false, cond};
 ghost use mathlib.Core.Path.{_≡_};
-ghost use Rattle.words.specs.Command.{flagOf};
 ghost use Rattle.bus.specs.End.{queues, behind, raised, full, sentInto, arrived, emptiedIf, showsBy, readBy, writtenBy, freshWire};
-ghost use Rattle.bus.specs.Held.{queueOf, wireOf, Sized, Roomy};
+ghost use Rattle.bus.specs.View.{queueOf, wireOf};
+ghost use Rattle.bus.specs.Held.{Sized, Roomy};
 use crate::fifo::Fifo;
 use crate::register::Role;
 use manual::Cr;
@@ -13,6 +13,7 @@ use manual::Fsr;
 use manual::Param;
 use manual::Sr;
 use words::transaction::Direction;
+use words::transaction::flag;
 
 pub struct Port {
     pub transmit: Fifo,
@@ -23,14 +24,8 @@ pub struct Port {
     pub r: bool,
 }
 
-fn flag(on: bool) -> u32
-    ensures { λ r. ⌜ r ≡ flagOf on ⌝ }
-{
-    if on { 1 } else { 0 }
-}
-
 // The words that a FIFO of that exponent holds.
-fn depth(exponent: usize) -> usize
+fn capacity(exponent: usize) -> usize
     requires { ⌜ exponent ≤ 4 ⌝ }
     ensures { λ r. ⌜ (r ≡ 2 ^ exponent) × (r ≤ 16) ⌝ }
 {
@@ -41,7 +36,7 @@ fn is_full(fifo: Fifo, exponent: usize) -> bool
     requires { ⌜ (exponent ≤ 4) × Sized fifo ⌝ }
     ensures { λ r. ⌜ r ≡ full exponent (queueOf fifo) ⌝ }
 {
-    depth(exponent) <= fifo.count
+    capacity(exponent) <= fifo.count
 }
 
 // A flag, or cleared.

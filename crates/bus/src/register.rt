@@ -4,7 +4,7 @@ ghost use mathlib.Core.Path.{_≡_};
 ghost use Rattle.bus.specs.End.{roleOf, placeOf};
 use manual::Register;
 
-pub enum Role {
+pub(crate) enum Role {
     // PARAM
     Sizes,
     // SR

@@ -1,13 +1,12 @@
 // A list of events.
 ghost use Prim.Native.Nat.{_≤_};
-ghost use mathlib.Core.List.{[]};
 ghost use mathlib.Core.Path.{_≡_};
 ghost use lib.ListN.{length};
 ghost use Rattle.bus.specs.Events.{pair, happened, pairAfter, freshPair};
 ghost use Rattle.bus.specs.Codes.{eventsOf};
 ghost use Rattle.bus.specs.Start.{Start};
 ghost use Rattle.bus.specs.Held.{Roomy, Stored, endOf, linkJob, Linked};
-use crate::clock::Pair;
+use crate::clock::Stations;
 use crate::clock::clock;
 use crate::event::Event;
 use crate::event::Side;
@@ -18,7 +17,7 @@ use crate::station::step;
 // One event.
 fn happen(
     event: Event,
-    stations: Pair,
+    stations: Stations,
     gate_link: Link,
     antenna_link: Link,
     gate_send: &[u32],
@@ -27,7 +26,7 @@ fn happen(
     antenna_words: &mut [u32],
     gate_registers: &mut [u32; 30],
     antenna_registers: &mut [u32; 30],
-) -> Pair
+) -> Stations
     requires { ⌜ («gate_link» .exponent ≤ 4) × («antenna_link» .exponent ≤ 4) × Roomy (stations .gate .port) × Roomy (stations .antenna .port) × (stations .gate .received ≤ length (now «gate_words»)) × (stations .antenna .received ≤ length (now «antenna_words»)) ⌝ }
     ensures { λ r. ⌜ Roomy (r .gate .port) × Roomy (r .antenna .port) × (r .gate .received ≤ length (now («gate_words» .entry))) × (r .antenna .received ≤ length (now («antenna_words» .entry))) × (Stored (stations .gate) (now («gate_words» .entry)) → Stored (stations .antenna) (now («antenna_words» .entry)) → pair (endOf (r .gate) (now («gate_words» .exit)) (now («gate_registers» .exit))) (endOf (r .antenna) (now («antenna_words» .exit)) (now («antenna_registers» .exit))) ≡ happened (linkJob «gate_link» (now («gate_send» .entry))) (linkJob «antenna_link» (now («antenna_send» .entry))) (pair (endOf (stations .gate) (now («gate_words» .entry)) (now («gate_registers» .entry))) (endOf (stations .antenna) (now («antenna_words» .entry)) (now («antenna_registers» .entry)))) event) ⌝ }
 {
@@ -35,11 +34,11 @@ fn happen(
     let antenna = stations.antenna;
     match event {
         Event::Step(side, busy) => match side {
-            Side::Gate => Pair {
+            Side::Gate => Stations {
                 gate: step(gate, busy, gate_link, gate_send, gate_words, gate_registers),
                 antenna,
             },
-            Side::Antenna => Pair {
+            Side::Antenna => Stations {
                 gate,
                 antenna: step(
                     antenna,
@@ -53,11 +52,11 @@ fn happen(
         },
         Event::Clock => clock(gate, antenna, gate_link.exponent, antenna_link.exponent),
         Event::Noise(side, direction) => match side {
-            Side::Gate => Pair {
+            Side::Gate => Stations {
                 gate: gate.noise(direction),
                 antenna,
             },
-            Side::Antenna => Pair {
+            Side::Antenna => Stations {
                 gate,
                 antenna: antenna.noise(direction),
             },
@@ -68,7 +67,7 @@ fn happen(
 // All of them.
 pub(crate) fn run(
     events: &[u8],
-    stations: Pair,
+    stations: Stations,
     gate_link: Link,
     antenna_link: Link,
     gate_send: &[u32],
@@ -77,7 +76,7 @@ pub(crate) fn run(
     antenna_words: &mut [u32],
     gate_registers: &mut [u32; 30],
     antenna_registers: &mut [u32; 30],
-) -> Pair
+) -> Stations
     requires { ⌜ («gate_link» .exponent ≤ 4) × («antenna_link» .exponent ≤ 4) × Roomy (stations .gate .port) × Roomy (stations .antenna .port) × (stations .gate .received ≤ length (now «gate_words»)) × (stations .antenna .received ≤ length (now «antenna_words»)) ⌝ }
     ensures { λ r. ⌜ Roomy (r .gate .port) × Roomy (r .antenna .port) × (r .gate .received ≤ length (now («gate_words» .entry))) × (r .antenna .received ≤ length (now («antenna_words» .entry))) × ((g a : Start) → Linked g a «gate_link» «antenna_link» (now («gate_send» .entry)) (now («antenna_send» .entry)) (length (now («gate_words» .entry))) (length (now («antenna_words» .entry))) → pair (endOf (stations .gate) (now («gate_words» .entry)) (now («gate_registers» .entry))) (endOf (stations .antenna) (now («antenna_words» .entry)) (now («antenna_registers» .entry))) ≡ freshPair g a → pair (endOf (r .gate) (now («gate_words» .exit)) (now («gate_registers» .exit))) (endOf (r .antenna) (now («antenna_words» .exit)) (now («antenna_registers» .exit))) ≡ pairAfter g a (eventsOf (now (events .entry)))) ⌝ }
 {

@@ -8,12 +8,12 @@ ghost use Rattle.runs.specs.Run.{ended};
 ghost use Rattle.runs.specs.Drive.{wordIn};
 ghost use Rattle.bus.specs.End.{roleOf, placeOf, endAccess, answerTo, wireAfter, heldBy, registersAfter, raised, stepped};
 ghost use Rattle.bus.specs.Events.{rewired};
-ghost use Rattle.bus.specs.Held.{wireOf, Roomy, endOf, linkJob, sentWord, flushNext, controlHeld, Stored};
+ghost use Rattle.bus.specs.View.{wireOf};
+ghost use Rattle.bus.specs.Held.{Roomy, endOf, linkJob, sentWord, flushNext, controlHeld, Stored};
 use crate::port::Port;
 use crate::register::Role;
 use crate::register::place_of;
 use crate::register::role_of;
-use machine::access::Access;
 use machine::flush::Flush;
 use machine::transfer::Transfer;
 use manual::Cr;
@@ -22,18 +22,19 @@ use manual::Register;
 use runs::drive::Frame;
 use runs::drive::keep;
 use runs::drive::word_in;
+use sequences::access::Access;
 use words::transaction::Direction;
 
 pub struct Station {
     pub transfer: Transfer,
     pub flush: Flush,
     // FIFO words received so far.
-    pub received: usize,
+    pub(crate) received: usize,
     pub port: Port,
 }
 
 // What an end goes by: its FIFO exponent, and the elements behind its words.
-pub struct Link {
+pub(crate) struct Link {
     pub exponent: usize,
     pub frame: Frame,
 }

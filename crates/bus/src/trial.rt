@@ -1,19 +1,14 @@
 // Two boards over the bus.
-ghost use Prim.Native.Nat.{_≤_};
-ghost use mathlib.Core.Bool.{false};
-ghost use mathlib.Core.List.{List};
 ghost use mathlib.Core.Path.{_≡_};
-ghost use lib.ListN.{take};
 ghost use Rattle.words.specs.Buffer.{packWords};
 ghost use Rattle.words.specs.Width.{widthBits};
 ghost use Rattle.words.specs.Word.{laid};
-ghost use Rattle.bus.specs.Start.{total, started, unfit};
-ghost use Rattle.bus.specs.End.{freshRegisters};
-ghost use Rattle.bus.specs.Events.{pair, freshPair, pairAfter};
+ghost use Rattle.bus.specs.Start.{total, started};
 ghost use Rattle.bus.specs.Agreement.{Agreement};
 ghost use Rattle.bus.specs.Codes.{eventsOf};
-ghost use Rattle.bus.specs.Held.{endOf, Roomy};
-ghost use Rattle.bus.specs.Trial.{slices, pick, startOf, stateOf, trialLeft, trialOf, Ready, Exchanged};
+ghost use Rattle.bus.specs.View.{stateOf};
+ghost use Rattle.bus.specs.Trial.{slices, pick, startOf, trialLeft, trialOf};
+ghost use Rattle.bus.specs.Held.{Ready, Exchanged};
 use crate::begin::fresh_registers;
 use crate::begin::fresh_station;
 use crate::begin::is_unfit;
@@ -23,7 +18,7 @@ use crate::board::Board;
 use crate::buffers::len;
 use crate::buffers::pack;
 use crate::buffers::unpack;
-use crate::clock::Pair;
+use crate::clock::Stations;
 use crate::run::run;
 use crate::station::Link;
 use crate::station::Station;
@@ -86,7 +81,7 @@ fn exchange(
     antenna: Board,
     gate_total: usize,
     antenna_total: usize,
-    fresh: Pair,
+    fresh: Stations,
     gate_read_u8: &mut [u8],
     gate_read_u16: &mut [u16],
     gate_read_u32: &mut [u32],
@@ -102,7 +97,7 @@ fn exchange(
     events: &[u8],
     gate_registers: &mut [u32; 30],
     antenna_registers: &mut [u32; 30],
-) -> Pair
+) -> Stations
     requires { ⌜ Ready gate antenna «gate_total» «antenna_total» fresh (slices (now («gate_read_u8»)) (now («gate_read_u16»)) (now («gate_read_u32»))) (slices (now («gate_write_u8»)) (now («gate_write_u16»)) (now («gate_write_u32»))) (slices (now («antenna_read_u8»)) (now («antenna_read_u16»)) (now («antenna_read_u32»))) (slices (now («antenna_write_u8»)) (now («antenna_write_u16»)) (now («antenna_write_u32»))) (now «gate_registers») (now «antenna_registers») ⌝ }
     ensures { λ r. ⌜ Exchanged gate antenna (slices (now («gate_read_u8» .entry)) (now («gate_read_u16» .entry)) (now («gate_read_u32» .entry))) (slices (now («gate_write_u8» .entry)) (now («gate_write_u16» .entry)) (now («gate_write_u32» .entry))) (slices (now («antenna_read_u8» .entry)) (now («antenna_read_u16» .entry)) (now («antenna_read_u32» .entry))) (slices (now («antenna_write_u8» .entry)) (now («antenna_write_u16» .entry)) (now («antenna_write_u32» .entry))) (now (events .entry)) r (now («gate_registers» .exit)) (now («antenna_registers» .exit)) (slices (now («gate_read_u8» .exit)) (now («gate_read_u16» .exit)) (now («gate_read_u32» .exit))) (slices (now («antenna_read_u8» .exit)) (now («antenna_read_u16» .exit)) (now («antenna_read_u32» .exit))) ⌝ }
 {
@@ -173,7 +168,7 @@ fn exchange(
     ends
 }
 
-fn left(number: u32, ends: Pair, gate: [u32; 30], antenna: [u32; 30]) -> Outcome
+fn left(number: u32, ends: Stations, gate: [u32; 30], antenna: [u32; 30]) -> Outcome
     ensures { λ r. ⌜ (r .number ≡ number) × (r .gate .station ≡ ends .gate) × (r .gate .registers ≡ gate) × (r .antenna .station ≡ ends .antenna) × (r .antenna .registers ≡ antenna) ⌝ }
 {
     let g = ends.gate;
@@ -237,7 +232,7 @@ pub fn trial(
     );
     let gate_total = total_of(gate.inplace, gate_read, gate_write);
     let antenna_total = total_of(antenna.inplace, antenna_read, antenna_write);
-    let fresh = Pair {
+    let fresh = Stations {
         gate: fresh_station(start(gate_driver, gate_width, gate_total)),
         antenna: fresh_station(start(antenna_driver, antenna_width, antenna_total)),
     };

@@ -3,17 +3,16 @@
 use Prim.Native.Nat.{ℕ, _%_}
 use mathlib.Core.Bool.{true, false}
 use mathlib.Core.List.{List, []}
-use mathlib.Core.Path.{_≡_, ap, ap₂, _∙_}
+use mathlib.Core.Path.{_≡_, ap, _∙_}
 use lib.Dec.{eqb}
-use Rattle.machine.specs.declared.driver.Lpspi.{Lpspi}
-use Rattle.machine.specs.Access.{numberOf}
+use Rattle.sequences.specs.declared.driver.Lpspi.{Lpspi}
 use Rattle.runs.specs.declared.result.RunResult.{RunResult}
 use Rattle.runs.specs.Run.{Left, left}
 use Rattle.transfers.specs.Transfers.{TransferLeft, transferLeft, exchangeSeparate, exchange, writeNoRead, readNoWrite}
 use Rattle.words.specs.declared.transaction.Transaction.{Transaction}
 use Rattle.calls.specs.Calls.{Answered, valueLeft}
 use Rattle.c_api.specs.HostCall.{transactionOf, numbered, hostValue, ofAnswered}
-use Rattle.c_api.specs.HostRun.{driverNumber, hostLeft, ofTransfer, ofCall, transferBy}
+use Rattle.c_api.specs.HostRun.{HostLeft, hostLeft, ofTransfer, ofCall, transferBy}
 
 -- by the transfer's number
 module _ (kind k : ℕ) (d : Lpspi) (read write : List ℕ) (budget : ℕ) (script log : List ℕ) where
@@ -31,23 +30,22 @@ module _ (kind k : ℕ) (d : Lpspi) (read write : List ℕ) (budget : ℕ) (scri
       → x ≡ transferBy kind k d read write budget script log
   by-read s t u e = rw (s, t, u) e
 
--- what goes back to the host
-module _ (r : RunResult) {n next : ℕ} (en : n ≡ numberOf (r .ending)) (ed : next ≡ driverNumber (r .driver)) where
-  pub host-transfer : {log buffer : List ℕ} {x : TransferLeft} → transferLeft r log buffer ≡ x → hostLeft n next (r .accesses) (r .answers) log buffer ≡ ofTransfer x
-  host-transfer {log} {buffer} e = ap₂ (λ (m w : ℕ). hostLeft m w (r .accesses) (r .answers) log buffer) en ed ∙ ap ofTransfer e
+-- what goes back to the host, by what `hand_back` left
+module _ (r : RunResult) (word : ℕ) {n next accesses answers : ℕ} (e : hostLeft n next accesses answers [] [] ≡ ofCall word (left r [])) where
+  pub host-transfer : {log buffer : List ℕ} {x : TransferLeft} → transferLeft r log buffer ≡ x → hostLeft n next accesses answers log buffer ≡ ofTransfer word x
+  host-transfer {log} {buffer} f = ap (λ (h : HostLeft). hostLeft (h .number) (h .driver) (h .accesses) (h .answers) log buffer) e ∙ ap (ofTransfer word) f
 
-  pub host-call : {log : List ℕ} {x : Left} → left r log ≡ x → hostLeft n next (r .accesses) (r .answers) log [] ≡ ofCall x
-  host-call {log} e = ap₂ (λ (m w : ℕ). hostLeft m w (r .accesses) (r .answers) log []) en ed ∙ ap ofCall e
+  pub host-call : {log : List ℕ} {x : Left} → left r log ≡ x → hostLeft n next accesses answers log [] ≡ ofCall word x
+  host-call {log} f = ap (λ (h : HostLeft). hostLeft (h .number) (h .driver) (h .accesses) (h .answers) log []) e ∙ ap (ofCall word) f
 
--- a call with a value
-pub host-value : (r : RunResult) {n next v : ℕ} → n ≡ numberOf (r .ending) → next ≡ driverNumber (r .driver) → {log : List ℕ} {x : Answered ℕ} → valueLeft r v log ≡ x
-    → hostValue n next (r .accesses) (r .answers) v log ≡ ofAnswered x
-host-value r {n} {next} {v} en ed {log} e = ap₂ (λ (m w : ℕ). hostValue m w (r .accesses) (r .answers) v log) en ed ∙ ap ofAnswered e
+  -- a call with a value
+  pub host-value : {v : ℕ} {log : List ℕ} {x : Answered ℕ} → valueLeft r v log ≡ x → hostValue n next accesses answers v log ≡ ofAnswered word x
+  host-value {v} {log} f = ap (λ (h : HostLeft). hostValue (h .number) (h .driver) (h .accesses) (h .answers) v log) e ∙ ap (ofAnswered word) f
 
 -- its value as a number
 pub as-number : {A : Type 0} (f : A → ℕ) {r : RunResult} {u : A} {v : ℕ} {log : List ℕ} {x : Answered A} → v ≡ f u → valueLeft r u log ≡ x → valueLeft r v log ≡ numbered f x
 as-number f {r} {u} {v} {log} ev e = ap (λ (n : ℕ). valueLeft r n log) ev ∙ ap (numbered f) e
 
 -- a command that was made is the one of its word
-pub command-of : (t : Transaction) {w : ℕ} → t .0 ≡ w → t ≡ transactionOf w
-command-of t e = ap transactionOf e
+pub transaction-of : (t : Transaction) {w : ℕ} → t .0 ≡ w → t ≡ transactionOf w
+transaction-of t e = ap transactionOf e

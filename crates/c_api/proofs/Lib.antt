@@ -1,2 +1,4 @@
+pub mod NumberLaws
 mod HostLaws
 mod PairLaws
+pub mod AnswerLaws

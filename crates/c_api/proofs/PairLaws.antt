@@ -4,7 +4,7 @@ use Prim.Native.Nat.{ℕ, zero, suc, _+_, _-_, _/_, _<_, _≤_}
 use mathlib.Core.List.{List, [], _∷_, _++_}
 use mathlib.Core.Path.{_≡_, refl, sym, ap, ap₂, _∙_}
 use native.Mathlib.Omega.{arith}
-use lib.ListN.{length, getD, take, length-append, List·getD-append}
+use lib.ListN.{length, getD, length-append, List·getD-append}
 use lib.Seq.{getD-append-add}
 use Rattle.words.specs.declared.width.Width.{Width}
 use Rattle.words.specs.Buffer.{filled, tabulate}
@@ -13,8 +13,9 @@ use Rattle.words.proofs.BufferLaws.{length-filled, store-stop}
 use Rattle.bus.specs.declared.board.Board.{Board}
 use Rattle.bus.specs.declared.trial.Outcome.{Outcome}
 use Rattle.bus.specs.Agreement.{Seen}
-use Rattle.bus.specs.Trial.{Slices, pick, stateOf, TrialLeft, trialLeft, trialOf}
-use Rattle.c_api.specs.HostBus.{headWords, stateWords, boardOf, lent, hostTrial, ofTrial, trialBy}
+use Rattle.bus.specs.Trial.{Slices, pick, TrialLeft, trialLeft, trialOf}
+use Rattle.bus.specs.View.{stateOf}
+use Rattle.c_api.specs.HostBus.{headWords, stateWords, stateLeft, boardOf, lent, hostTrial, ofTrial, trialBy}
 
 filled-at : (d n i : ℕ) (xs : List ℕ) → i < n → getD (filled d n xs) i d ≡ getD xs i d
 filled-at d zero i xs h = absurd (omega arith)
@@ -22,13 +23,6 @@ filled-at d (suc n) zero [] h = refl
 filled-at d (suc n) zero (x ∷ xs) h = refl
 filled-at d (suc n) (suc i) [] h = filled-at d n i [] (omega arith)
 filled-at d (suc n) (suc i) (x ∷ xs) h = filled-at d n i xs (omega arith)
-
-pub past-queue : (words : List ℕ) (n i : ℕ) → n ≤ i → 0 ≡ getD (take n words) i 0
-past-queue [] zero i h = refl
-past-queue [] (suc n) i h = refl
-past-queue (w ∷ words) zero i h = refl
-past-queue (w ∷ words) (suc n) zero h = absurd (omega arith)
-past-queue (w ∷ words) (suc n) (suc i) h = past-queue words n i (omega arith)
 
 -- LISTS AFTER LISTS
 
@@ -112,14 +106,14 @@ shown n m xs bs ws e h s ew =
     store-stop n m (λ i. getD xs i 0) (λ i. getD xs i 0) bs ws h s (λ i l. refl) ew ∙ ap (λ (l : List ℕ). laid l bs) (tabulate-all m xs e)
 
 -- WHAT GOES BACK, of boards made of numbers
-pub host-trial : (w : Width) (o : Outcome) (gr ar : Slices) (g a : Board) (gateDriver antennaDriver inplace gateExponent antennaExponent : ℕ) (gateRead gateWrite antennaRead antennaWrite events state st : List ℕ)
+pub host-trial : (w : Width) (o : Outcome) (gr ar : Slices) (g a : Board) (gateDriver antennaDriver inplace gateExponent antennaExponent : ℕ) (gateRead gateWrite antennaRead antennaWrite events state st : List ℕ) (n : ℕ)
     → g ≡ boardOf w gateDriver inplace gateExponent → a ≡ boardOf w antennaDriver (inplace / 2) antennaExponent
     → trialLeft o gr ar ≡ trialOf g a (lent w gateRead) (lent w gateWrite) (lent w antennaRead) (lent w antennaWrite) events
-    → st ≡ laid (stateWords (stateOf (o .gate)) ++ stateWords (stateOf (o .antenna))) state
-    → hostTrial (o .number) (pick w gr) (pick w ar) st
+    → (n ≡ o .number) × (st ≡ stateLeft (o .number) (stateOf (o .gate)) (stateOf (o .antenna)) state)
+    → hostTrial n (pick w gr) (pick w ar) st
     ≡ trialBy w gateDriver antennaDriver inplace gateExponent antennaExponent gateRead gateWrite antennaRead antennaWrite events state
-host-trial w o gr ar g a gateDriver antennaDriver inplace gateExponent antennaExponent gateRead gateWrite antennaRead antennaWrite events state st p q e s =
-    ap (λ (l : List ℕ). hostTrial (o .number) (pick w gr) (pick w ar) l) s
+host-trial w o gr ar g a gateDriver antennaDriver inplace gateExponent antennaExponent gateRead gateWrite antennaRead antennaWrite events state st n p q e s =
+    ap₂ (λ (m : ℕ) (l : List ℕ). hostTrial m (pick w gr) (pick w ar) l) (s .0) (s .1)
     ∙ ap (λ (y : TrialLeft). ofTrial w y state) (e ∙ ap₂ (λ (y z : Board). trialOf y z (lent w gateRead) (lent w gateWrite) (lent w antennaRead) (lent w antennaWrite) events) p q)
 
 -- SIX WORDS

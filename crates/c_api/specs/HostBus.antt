@@ -1,6 +1,7 @@
 -- The two-board bus for a host: both boards at one width, and what a trial leaves: its number, both read buffers, and both ends' states as words.
 -- Assumes nothing.
 use Prim.Native.Nat.{ℕ, _/_, _%_}
+use mathlib.Core.Bool.{cond}
 use mathlib.Core.List.{List, [], _∷_, _++_}
 use lib.Dec.{eqb}
 use lib.ListN.{length}
@@ -8,11 +9,11 @@ use Rattle.words.specs.declared.width.Width.{Width}
 use Rattle.words.specs.Buffer.{filled}
 use Rattle.words.specs.Command.{flagOf}
 use Rattle.words.specs.Word.{laid}
-use Rattle.machine.specs.declared.access.Access.{Access}
-use Rattle.machine.specs.declared.access.Access.the-variants.{Read, Write, Send, Receive, Done}
+use Rattle.sequences.specs.declared.access.Access.{Access}
+use Rattle.sequences.specs.declared.access.Access.the-variants.{Read, Write, Send, Receive, Done}
 use Rattle.machine.specs.declared.flush.Flush.{Flush}
 use Rattle.machine.specs.declared.transfer.Transfer.{Transfer}
-use Rattle.machine.specs.Access.{numberOf}
+use Rattle.sequences.specs.Access.{numberOf}
 use Rattle.machine.specs.Flush.{flushAccess}
 use Rattle.machine.specs.Transfer.{dueAccess}
 use Rattle.bus.specs.declared.board.Board.{Board}
@@ -50,18 +51,24 @@ boardOf width driver inplace exponent = record { driver = driverOf driver; width
 abbrev pub lent : Width → List ℕ → Slices
 lent width xs = placed width xs (slices (0 ∷ []) (0 ∷ []) (0 ∷ []))
 
+-- what a trial leaves a host: its number, both read buffers, and the words of both states
 pub record HostTrial : Type 0 where
   pub number : ℕ
   pub gateRead : List ℕ
   pub antennaRead : List ℕ
   pub state : List ℕ
 
+-- of its parts
 abbrev pub hostTrial : ℕ → List ℕ → List ℕ → List ℕ → HostTrial
 hostTrial number gateRead antennaRead state = record { number = number; gateRead = gateRead; antennaRead = antennaRead; state = state }
 
--- both states, the gate's first, over the front of what was lent for them
+-- both states, the gate's first, over the front of what was lent for them; at 9 "all as found"
+abbrev pub stateLeft : ℕ → Seen → Seen → List ℕ → List ℕ
+stateLeft number gate antenna state = cond (eqb number 9) state (laid (stateWords gate ++ stateWords antenna) state)
+
+-- of what the pair entry leaves, at one width
 abbrev pub ofTrial : Width → TrialLeft → List ℕ → HostTrial
-ofTrial width t state = hostTrial (t .number) (pick width (t .gateReads)) (pick width (t .antennaReads)) (laid (stateWords (t .gate) ++ stateWords (t .antenna)) state)
+ofTrial width t state = hostTrial (t .number) (pick width (t .gateReads)) (pick width (t .antennaReads)) (stateLeft (t .number) (t .gate) (t .antenna) state)
 
 -- bit 0 of `inplace` is the gate's, bit 1 the antenna's
 abbrev pub trialBy : Width → ℕ → ℕ → ℕ → ℕ → ℕ → List ℕ → List ℕ → List ℕ → List ℕ → List ℕ → List ℕ → HostTrial

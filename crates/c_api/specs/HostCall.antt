@@ -1,29 +1,30 @@
 -- The other calls for a host, by number, with parameters as numbers.
 -- Assumes nothing.
-use Prim.Native.Nat.{ℕ, _+_, _*_, _/_, _%_, _-_}
+use Prim.Native.Nat.{ℕ, _+_, _*_, _%_, _-_}
 use mathlib.Core.Bool.{Bool, false, cond}
 use mathlib.Core.List.{List, [], _∷_}
 use lib.Dec.{eqb}
-use Rattle.manual.specs.declared.Field.the-variants.{Tcr}
+use Rattle.manual.specs.declared.Ccr.the-variants.{SCKDIV, DBT, PCSSCK, SCKPCS}
+use Rattle.manual.specs.declared.Field.the-variants.{Ccr, Tcr}
 use Rattle.manual.specs.declared.Tcr.the-variants.{FRAMESZ}
-use Rattle.manual.specs.Manual.{setField}
+use Rattle.manual.specs.Manual.{readField, setField}
 use Rattle.words.specs.declared.clock.ClockConfigs.{ClockConfigs}
 use Rattle.words.specs.declared.transaction.Direction.{Direction}
 use Rattle.words.specs.declared.transaction.Direction.the-variants.{Tx, Rx}
 use Rattle.words.specs.declared.transaction.LpspiError.the-variants.{FrameSize}
 use Rattle.words.specs.declared.transaction.Transaction.{Transaction}
 use Rattle.words.specs.Command.{flagOf, frameAccepted}
-use Rattle.machine.specs.declared.access.Ending.the-variants.{Err}
-use Rattle.machine.specs.Driver.{driverCommand}
-use Rattle.machine.specs.declared.call.Call.the-variants.{SoftReset, RecoverFromError, Init, GetWatermark, SetWatermark, GetStatus, ClearStatus, IsEnabled, SetEnable, ClearFifo, GetFifoStatus, ReadData, EnqueueData, EnqueueTransaction, SetClockConfigs, SetSamplePoint, SetPeripheralEnable, SetChipSelectPolarity}
-use Rattle.machine.specs.declared.driver.Lpspi.{Lpspi}
-use Rattle.machine.specs.declared.settings.PcsPolarity.{PcsPolarity}
-use Rattle.machine.specs.declared.settings.PcsPolarity.the-variants.{ActiveLow, ActiveHigh}
-use Rattle.machine.specs.declared.settings.SamplePoint.{SamplePoint}
-use Rattle.machine.specs.declared.settings.SamplePoint.the-variants.{Edge, DelayedEdge}
-use Rattle.machine.specs.declared.status.Status.{Status}
-use Rattle.machine.specs.Status.{statusOf}
-use Rattle.runs.specs.Run.{Left, left}
+use Rattle.sequences.specs.declared.access.Ending.the-variants.{Err}
+use Rattle.sequences.specs.Driver.{driverCommand}
+use Rattle.sequences.specs.declared.call.Call.the-variants.{SoftReset, RecoverFromError, Init, GetWatermark, SetWatermark, GetStatus, ClearStatus, IsEnabled, SetEnable, ClearFifo, GetFifoStatus, ReadData, EnqueueData, EnqueueTransaction, SetClockConfigs, SetSamplePoint, SetPeripheralEnable, SetChipSelectPolarity}
+use Rattle.sequences.specs.declared.driver.Lpspi.{Lpspi}
+use Rattle.sequences.specs.declared.settings.PcsPolarity.{PcsPolarity}
+use Rattle.sequences.specs.declared.settings.PcsPolarity.the-variants.{ActiveLow, ActiveHigh}
+use Rattle.sequences.specs.declared.settings.SamplePoint.{SamplePoint}
+use Rattle.sequences.specs.declared.settings.SamplePoint.the-variants.{Edge, DelayedEdge}
+use Rattle.sequences.specs.declared.status.Status.{Status}
+use Rattle.sequences.specs.Status.{statusOf}
+use Rattle.runs.specs.Run.{Left, left, limits, unmoved, overLimits}
 use Rattle.runs.specs.Call.{callRun}
 use Rattle.calls.specs.declared.results.FifoStatus.{FifoStatus}
 use Rattle.calls.specs.Values.{watermarkIn, levelIn, statusIn, noStatus, enabledIn, fifoIn, noFifo, dataIn}
@@ -49,21 +50,23 @@ statusFrom a = record { bits = statusOf a }
 abbrev pub sampleFrom : ℕ → SamplePoint
 sampleFrom a = cond (odd a) DelayedEdge Edge
 
-abbrev pub polarityFrom : ℕ → PcsPolarity
-polarityFrom a = cond (odd a) ActiveHigh ActiveLow
+abbrev pub pcsPolarityFrom : ℕ → PcsPolarity
+pcsPolarityFrom a = cond (odd a) ActiveHigh ActiveLow
 
 -- the fields of a word of CCR
 abbrev pub clockFrom : ℕ → ClockConfigs
-clockFrom w = record { sckpcs = w / 0x1000000 % 256; pcssck = w / 0x10000 % 256; dbt = w / 0x100 % 256; sckdiv = w % 256 }
+clockFrom w =
+    record { sckpcs = readField (Ccr SCKPCS) w; pcssck = readField (Ccr PCSSCK) w; dbt = readField (Ccr DBT) w; sckdiv = readField (Ccr SCKDIV) w }
 
 -- CALLS BY NUMBER
 
 module _ (d : Lpspi) (budget : ℕ) (script log : List ℕ) where
-  -- a command of a bits with the driver's order, mode and chip select; number 1 and all as found where that frame size is refused
+  -- a command of a bits with the driver's order, mode and chip select; number 1 and all as found where that frame size is refused; 5 comes before it
   abbrev pub enqueueBy : ℕ → Left
   enqueueBy a =
-      cond (frameAccepted a) (ranCall (callRun d (EnqueueTransaction (transactionOf (driverCommand d (setField (Tcr FRAMESZ) (a - 1) 0)))) budget script log))
-      (left (record { ending = Err FrameSize; accesses = 0; answers = 0; driver = d }) log)
+      cond (limits budget log) (overLimits d log)
+      (cond (frameAccepted a) (ranCall (callRun d (EnqueueTransaction (transactionOf (driverCommand d (setField (Tcr FRAMESZ) (a - 1) 0)))) budget script log))
+      (left (unmoved d (Err FrameSize)) log))
 
   -- the resets, modulo 3
   abbrev pub resetBy : ℕ → Left
@@ -85,7 +88,7 @@ module _ (d : Lpspi) (budget : ℕ) (script log : List ℕ) where
       cond (eqb (kind % 5) 0) (setClockHzRun d a b budget script log)
       (cond (eqb (kind % 5) 1) (ranCall (callRun d (SetClockConfigs (clockFrom a)) budget script log))
       (cond (eqb (kind % 5) 2) (ranCall (callRun d (SetSamplePoint (sampleFrom a)) budget script log))
-      (cond (eqb (kind % 5) 3) (ranCall (callRun d (SetPeripheralEnable (odd a)) budget script log)) (ranCall (callRun d (SetChipSelectPolarity (pcsFrom a) (polarityFrom b)) budget script log)))))
+      (cond (eqb (kind % 5) 3) (ranCall (callRun d (SetPeripheralEnable (odd a)) budget script log)) (ranCall (callRun d (SetChipSelectPolarity (pcsFrom a) (pcsPolarityFrom b)) budget script log)))))
 
 -- VALUES AS NUMBERS
 
@@ -119,5 +122,5 @@ pub record HostValue : Type 0 where
 abbrev pub hostValue : ℕ → ℕ → ℕ → ℕ → ℕ → List ℕ → HostValue
 hostValue number driver accesses answers value log = record { run = hostLeft number driver accesses answers log []; value = value }
 
-abbrev pub ofAnswered : Answered ℕ → HostValue
-ofAnswered x = record { run = ofCall (x .run); value = x .value }
+abbrev pub ofAnswered : ℕ → Answered ℕ → HostValue
+ofAnswered word x = record { run = ofCall word (x .run); value = x .value }

@@ -7,7 +7,7 @@ use mathlib.Core.List.{List, []}
 use lib.Dec.{eqb}
 use Rattle.words.specs.declared.mode.Mode.{Mode}
 use Rattle.words.specs.Command.{lsbfOf, cpolOf, cphaOf, pcsOf}
-use Rattle.machine.specs.declared.driver.Lpspi.{Lpspi}
+use Rattle.sequences.specs.declared.driver.Lpspi.{Lpspi}
 use Rattle.runs.specs.Run.{Left}
 use Rattle.transfers.specs.Transfers.{TransferLeft, exchangeSeparate, exchange, writeNoRead, readNoWrite}
 use Rattle.c_api.specs.Host.{orderFrom, modeFrom, pcsFrom}
@@ -27,6 +27,10 @@ modeNumber m = cpolOf (m .polarity) * 2 + cphaOf (m .phase)
 abbrev pub driverNumber : Lpspi → ℕ
 driverNumber d = (((lsbfOf (d .order) * 4 + modeNumber (d .mode)) * 4 + pcsOf (d .pcs)) * 256 + d .cache .dbt) * 256 + d .cache .sckdiv
 
+-- the host's word with the driver value d in bits 20..0; bits 31..21 are the host's, and stay as they were
+abbrev pub driverLeft : ℕ → Lpspi → ℕ
+driverLeft word d = word / 0x200000 * 0x200000 + driverNumber d
+
 pub record HostLeft : Type 0 where
   pub number : ℕ
   pub driver : ℕ
@@ -39,12 +43,14 @@ abbrev pub hostLeft : ℕ → ℕ → ℕ → ℕ → List ℕ → List ℕ → 
 hostLeft number driver accesses answers log buffer =
     record { number = number; driver = driver; accesses = accesses; answers = answers; log = log; buffer = buffer }
 
-abbrev pub ofTransfer : TransferLeft → HostLeft
-ofTransfer t = hostLeft (t .call .number) (driverNumber (t .call .result .driver)) (t .call .result .accesses) (t .call .result .answers) (t .call .log) (t .buffer)
+-- `word` is the driver's before the run
+abbrev pub ofTransfer : ℕ → TransferLeft → HostLeft
+ofTransfer word t =
+    hostLeft (t .call .number) (driverLeft word (t .call .result .driver)) (t .call .result .accesses) (t .call .result .answers) (t .call .log) (t .buffer)
 
 -- a call without a buffer
-abbrev pub ofCall : Left → HostLeft
-ofCall c = hostLeft (c .number) (driverNumber (c .result .driver)) (c .result .accesses) (c .result .answers) (c .log) []
+abbrev pub ofCall : ℕ → Left → HostLeft
+ofCall word c = hostLeft (c .number) (driverLeft word (c .result .driver)) (c .result .accesses) (c .result .answers) (c .log) []
 
 -- the transfers by number, modulo 4: 0 separate, 1 in place (the read buffer), 2 write only, which leaves the read buffer as found, 3 read only
 abbrev pub transferBy : ℕ → ℕ → Lpspi → List ℕ → List ℕ → ℕ → List ℕ → List ℕ → TransferLeft

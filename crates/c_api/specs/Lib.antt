@@ -1,3 +1,4 @@
+-- Read in this order.
 pub mod Host
 pub mod HostRun
 pub mod HostCall

@@ -7,10 +7,11 @@ ghost use Rattle.calls.specs.Calls.{valueLeft};
 ghost use Rattle.calls.specs.Values.{wordsOf};
 ghost use Rattle.words.specs.Command.{flagOf};
 ghost use Rattle.c_api.specs.HostRun.{driverOf, hostLeft, ofCall};
-ghost use Rattle.c_api.specs.HostCall.{odd, directionFrom, sampleFrom, polarityFrom, clockFrom, enqueueBy, resetBy, setBy, disabledBy, fifoNumber, wordsNumber, getBy, hostValue, ofAnswered};
+ghost use Rattle.c_api.specs.HostCall.{odd, directionFrom, sampleFrom, pcsPolarityFrom, clockFrom, enqueueBy, resetBy, setBy, disabledBy, fifoNumber, wordsNumber, getBy, hostValue, ofAnswered};
+use crate::command::command_of;
 use crate::command::pcs_of;
-use crate::driver::driver_number;
 use crate::driver::driver_of;
+use crate::driver::hand_back;
 use calls::data::enqueue_data;
 use calls::data::enqueue_transaction;
 use calls::data::read_data;
@@ -32,16 +33,18 @@ use calls::status::clear_status;
 use calls::status::is_enabled;
 use calls::status::set_enable;
 use calls::status::status;
-use machine::access::Ending;
-use machine::driver::Lpspi;
-use machine::settings::PcsPolarity;
-use machine::settings::SamplePoint;
-use machine::status::Status;
+use manual::Ccr;
+use manual::Field;
+use runs::log::limits;
 use runs::result::RunResult;
+use sequences::access::Ending;
+use sequences::driver::Lpspi;
+use sequences::settings::PcsPolarity;
+use sequences::settings::SamplePoint;
+use sequences::status::Status;
 use words::clock::ClockConfigs;
 use words::transaction::Direction;
 use words::transaction::LpspiError;
-use words::transaction::Transaction;
 use words::transaction::TransactionResult;
 
 fn is_odd(a: u32) -> bool
@@ -71,7 +74,7 @@ fn sample_point(a: u32) -> SamplePoint
 }
 
 fn polarity(a: u32) -> PcsPolarity
-    ensures { λ r. ⌜ r ≡ polarityFrom a ⌝ }
+    ensures { λ r. ⌜ r ≡ pcsPolarityFrom a ⌝ }
 {
     if a % 2 == 1 {
         PcsPolarity::ActiveHigh
@@ -84,10 +87,10 @@ fn clock(word: u32) -> ClockConfigs
     ensures { λ r. ⌜ r ≡ clockFrom word ⌝ }
 {
     ClockConfigs {
-        sckpcs: (word / 0x100_0000 % 256) as u8,
-        pcssck: (word / 0x1_0000 % 256) as u8,
-        dbt: (word / 0x100 % 256) as u8,
-        sckdiv: (word % 256) as u8,
+        sckpcs: Field::Ccr(Ccr::SCKPCS).read(word) as u8,
+        pcssck: Field::Ccr(Ccr::PCSSCK).read(word) as u8,
+        dbt: Field::Ccr(Ccr::DBT).read(word) as u8,
+        sckdiv: Field::Ccr(Ccr::SCKDIV).read(word) as u8,
     }
 }
 
@@ -104,7 +107,7 @@ fn reset(kind: u32, driver: Lpspi, budget: usize, script: &[u32], log: &mut [u32
     init(driver, budget, script, log)
 }
 
-// A command of that frame size with the driver's order, mode and chip select.
+// A command of that frame size with the driver's order, mode and chip select. Number 5 comes before number 1.
 fn enqueue(
     frame_size: u32,
     driver: Lpspi,
@@ -114,17 +117,11 @@ fn enqueue(
 ) -> RunResult
     ensures { λ r. ⌜ left r (now (log .exit)) ≡ enqueueBy driver budget (now (script .entry)) (now (log .entry)) «frame_size» ⌝ }
 {
-    let refused = RunResult {
-        ending: Ending::Err(LpspiError::FrameSize),
-        accesses: 0,
-        answers: 0,
-        driver,
-    };
-    if (Transaction::MAX_FRAME_SIZE as u32) < frame_size {
-        return refused;
+    if limits(budget, log) {
+        return RunResult::unmoved(driver, Ending::Limits);
     }
-    let TransactionResult::Ok(command) = Transaction::new(frame_size as u16) else {
-        return refused;
+    let TransactionResult::Ok(command) = command_of(frame_size) else {
+        return RunResult::unmoved(driver, Ending::Err(LpspiError::FrameSize));
     };
     enqueue_transaction(driver, driver.bus_transaction(command), budget, script, log)
 }
@@ -283,15 +280,11 @@ pub extern "C" fn lpspi_reset(
     accesses: &mut usize,
     answers: &mut usize,
 ) -> u32
-    ensures { λ r. ⌜ hostLeft r (now (driver .exit)) (now (accesses .exit)) (now (answers .exit)) (now (log .exit)) [] ≡ ofCall (resetBy (driverOf (now (driver .entry))) budget (now (script .entry)) (now (log .entry)) kind) ⌝ }
+    ensures { λ r. ⌜ hostLeft r (now (driver .exit)) (now (accesses .exit)) (now (answers .exit)) (now (log .exit)) [] ≡ ofCall (now (driver .entry)) (resetBy (driverOf (now (driver .entry))) budget (now (script .entry)) (now (log .entry)) kind) ⌝ }
 {
     let d = driver_of(*driver);
     let r = reset(kind, d, budget, script, log);
-    *driver = driver_number(r.driver);
-    *accesses = r.accesses;
-    *answers = r.answers;
-    let ending = r.ending;
-    ending.number()
+    hand_back(r, driver, accesses, answers)
 }
 
 #[no_mangle]
@@ -305,15 +298,11 @@ pub extern "C" fn lpspi_set(
     accesses: &mut usize,
     answers: &mut usize,
 ) -> u32
-    ensures { λ r. ⌜ hostLeft r (now (driver .exit)) (now (accesses .exit)) (now (answers .exit)) (now (log .exit)) [] ≡ ofCall (setBy (driverOf (now (driver .entry))) budget (now (script .entry)) (now (log .entry)) kind a) ⌝ }
+    ensures { λ r. ⌜ hostLeft r (now (driver .exit)) (now (accesses .exit)) (now (answers .exit)) (now (log .exit)) [] ≡ ofCall (now (driver .entry)) (setBy (driverOf (now (driver .entry))) budget (now (script .entry)) (now (log .entry)) kind a) ⌝ }
 {
     let d = driver_of(*driver);
     let r = set(kind, a, d, budget, script, log);
-    *driver = driver_number(r.driver);
-    *accesses = r.accesses;
-    *answers = r.answers;
-    let ending = r.ending;
-    ending.number()
+    hand_back(r, driver, accesses, answers)
 }
 
 #[no_mangle]
@@ -328,15 +317,11 @@ pub extern "C" fn lpspi_disabled(
     accesses: &mut usize,
     answers: &mut usize,
 ) -> u32
-    ensures { λ r. ⌜ hostLeft r (now (driver .exit)) (now (accesses .exit)) (now (answers .exit)) (now (log .exit)) [] ≡ ofCall (disabledBy (driverOf (now (driver .entry))) budget (now (script .entry)) (now (log .entry)) kind a b) ⌝ }
+    ensures { λ r. ⌜ hostLeft r (now (driver .exit)) (now (accesses .exit)) (now (answers .exit)) (now (log .exit)) [] ≡ ofCall (now (driver .entry)) (disabledBy (driverOf (now (driver .entry))) budget (now (script .entry)) (now (log .entry)) kind a b) ⌝ }
 {
     let d = driver_of(*driver);
     let r = disabled(kind, a, b, d, budget, script, log);
-    *driver = driver_number(r.driver);
-    *accesses = r.accesses;
-    *answers = r.answers;
-    let ending = r.ending;
-    ending.number()
+    hand_back(r, driver, accesses, answers)
 }
 
 // With the call's value as a number.
@@ -353,15 +338,11 @@ pub extern "C" fn lpspi_get(
     answers: &mut usize,
     value: &mut u64,
 ) -> u32
-    ensures { λ r. ⌜ hostValue r (now (driver .exit)) (now (accesses .exit)) (now (answers .exit)) (now (value .exit)) (now (log .exit)) ≡ ofAnswered (getBy (driverOf (now (driver .entry))) budget (now (script .entry)) (now (log .entry)) kind a b) ⌝ }
+    ensures { λ r. ⌜ hostValue r (now (driver .exit)) (now (accesses .exit)) (now (answers .exit)) (now (value .exit)) (now (log .exit)) ≡ ofAnswered (now (driver .entry)) (getBy (driverOf (now (driver .entry))) budget (now (script .entry)) (now (log .entry)) kind a b) ⌝ }
 {
     let d = driver_of(*driver);
     let got = get(kind, a, b, d, budget, script, log);
     *value = got.value;
     let r = got.result;
-    *driver = driver_number(r.driver);
-    *accesses = r.accesses;
-    *answers = r.answers;
-    let ending = r.ending;
-    ending.number()
+    hand_back(r, driver, accesses, answers)
 }

@@ -1,12 +1,13 @@
 // The word of the register TCR.
 ghost use mathlib.Core.Path.{_≡_};
-ghost use Rattle.words.specs.Command.{commanded, settingsWord};
+ghost use Rattle.words.specs.Command.{commandAnswer, commanded, framed, settingsWord};
 ghost use Rattle.c_api.specs.Host.{orderFrom, polarityFrom, phaseFrom, modeFrom, pcsFrom, settingsFrom, answered, kept};
 use words::mode::Mode;
 use words::mode::Pcs;
 use words::mode::Phase;
 use words::mode::Polarity;
 use words::order::BitOrder;
+use words::transaction::LpspiError;
 use words::transaction::Transaction;
 use words::transaction::TransactionResult;
 
@@ -60,6 +61,16 @@ pub(crate) fn pcs_of(pcs: u32) -> Pcs
     Pcs::Pcs3
 }
 
+// A host's frame size has 32 bits: one that is too large is refused and not cut.
+pub(crate) fn command_of(frame_size: u32) -> TransactionResult
+    ensures { λ r. ⌜ commandAnswer r ≡ framed «frame_size» ⌝ }
+{
+    if (Transaction::MAX_FRAME_SIZE as u32) < frame_size {
+        return TransactionResult::Err(LpspiError::FrameSize);
+    }
+    Transaction::new(frame_size as u16)
+}
+
 #[no_mangle]
 pub extern "C" fn lpspi_command(
     frame_size: u32,
@@ -75,10 +86,7 @@ pub extern "C" fn lpspi_command(
 ) -> u32
     ensures { λ r. ⌜ answered r (now (word .exit)) ≡ kept (commanded (settingsWord (settingsFrom «byte_swap» lsb «receive_mask» «transmit_mask» continuous continuing mode pcs)) «frame_size») (now (word .entry)) ⌝ }
 {
-    if (Transaction::MAX_FRAME_SIZE as u32) < frame_size {
-        return 1;
-    }
-    let TransactionResult::Ok(command) = Transaction::new(frame_size as u16) else {
+    let TransactionResult::Ok(command) = command_of(frame_size) else {
         return 1;
     };
     *word = command

@@ -1,18 +1,17 @@
-// A driver value as a number: SCKDIV in bits 7..0, DBT in 15..8, the chip select in 17..16, the mode in 19..18, bit 20 for LSB.
+// A driver value as a number: SCKDIV in bits 7..0, DBT in 15..8, the chip select in 17..16, the mode in 19..18, bit 20 for LSB. Bits 31..21
+// are the host's.
 ghost use mathlib.Core.Path.{_≡_};
+ghost use mathlib.Core.List.{[]};
 ghost use Prim.Native.Nat.{_≤_};
-ghost use Rattle.words.specs.Command.{lsbfOf, cpolOf, cphaOf, pcsOf};
-ghost use Rattle.c_api.specs.HostRun.{driverOf, modeNumber, driverNumber};
+ghost use Rattle.runs.specs.Run.{left};
+ghost use Rattle.c_api.specs.HostRun.{driverOf, modeNumber, driverNumber, driverLeft, hostLeft, ofCall};
 use crate::command::mode_of;
 use crate::command::order_of;
 use crate::command::pcs_of;
-use machine::driver::Lpspi;
+use runs::result::RunResult;
+use sequences::driver::Lpspi;
 use words::clock::ClockConfigs;
 use words::mode::Mode;
-use words::mode::Pcs;
-use words::mode::Phase;
-use words::mode::Polarity;
-use words::order::BitOrder;
 
 pub(crate) fn driver_of(number: u32) -> Lpspi
     ensures { λ r. ⌜ r ≡ driverOf number ⌝ }
@@ -30,58 +29,43 @@ pub(crate) fn driver_of(number: u32) -> Lpspi
         .with_clock(clock)
 }
 
-fn lsbf(order: BitOrder) -> u32
-    ensures { λ r. ⌜ (r ≡ lsbfOf order) × (r ≤ 1) ⌝ }
-{
-    match order {
-        BitOrder::Msb => 0,
-        BitOrder::Lsb => 1,
-    }
-}
-
-fn cpol(polarity: Polarity) -> u32
-    ensures { λ r. ⌜ (r ≡ cpolOf polarity) × (r ≤ 1) ⌝ }
-{
-    match polarity {
-        Polarity::IdleLow => 0,
-        Polarity::IdleHigh => 1,
-    }
-}
-
-fn cpha(phase: Phase) -> u32
-    ensures { λ r. ⌜ (r ≡ cphaOf phase) × (r ≤ 1) ⌝ }
-{
-    match phase {
-        Phase::CaptureOnFirstTransition => 0,
-        Phase::CaptureOnSecondTransition => 1,
-    }
-}
-
 fn mode_number(mode: Mode) -> u32
     ensures { λ r. ⌜ (r ≡ modeNumber mode) × (r ≤ 3) ⌝ }
 {
     let polarity = mode.polarity;
     let phase = mode.phase;
-    cpol(polarity) * 2 + cpha(phase)
+    polarity.cpol() * 2 + phase.cpha()
 }
 
-fn pcs_number(pcs: Pcs) -> u32
-    ensures { λ r. ⌜ (r ≡ pcsOf pcs) × (r ≤ 3) ⌝ }
-{
-    match pcs {
-        Pcs::Pcs0 => 0,
-        Pcs::Pcs1 => 1,
-        Pcs::Pcs2 => 2,
-        Pcs::Pcs3 => 3,
-    }
-}
-
-pub(crate) fn driver_number(driver: Lpspi) -> u32
-    ensures { λ r. ⌜ r ≡ driverNumber driver ⌝ }
+fn driver_number(driver: Lpspi) -> u32
+    ensures { λ r. ⌜ (r ≡ driverNumber driver) × (r ≤ 0x1FFFFF) ⌝ }
 {
     let cache = driver.ccr_cache();
-    let order = lsbf(driver.bit_order());
+    let order = driver.bit_order().lsbf();
     let mode = mode_number(driver.mode());
-    let pcs = pcs_number(driver.pcs());
+    let pcs = driver.pcs().number();
     (((order * 4 + mode) * 4 + pcs) * 256 + cache.dbt as u32) * 256 + cache.sckdiv as u32
+}
+
+// The host's word with that driver value.
+fn driver_left(word: u32, driver: Lpspi) -> u32
+    ensures { λ r. ⌜ r ≡ driverLeft word driver ⌝ }
+{
+    word / 0x20_0000 * 0x20_0000 + driver_number(driver)
+}
+
+// The next driver value, the accesses made and the answers used where they go; and the number.
+pub(crate) fn hand_back(
+    r: RunResult,
+    driver: &mut u32,
+    accesses: &mut usize,
+    answers: &mut usize,
+) -> u32
+    ensures { λ n. ⌜ hostLeft n (now (driver .exit)) (now (accesses .exit)) (now (answers .exit)) [] [] ≡ ofCall (now (driver .entry)) (left r []) ⌝ }
+{
+    *driver = driver_left(*driver, r.driver);
+    *accesses = r.accesses;
+    *answers = r.answers;
+    let ending = r.ending;
+    ending.number()
 }

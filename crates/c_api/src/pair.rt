@@ -2,32 +2,25 @@
 ghost use Prim.Native.Nat.{_<_, min};
 ghost use mathlib.Core.List.{_++_};
 ghost use mathlib.Core.Path.{_≡_};
-ghost use lib.ListN.{length, getD};
+ghost use lib.ListN.{getD};
 ghost use Rattle.words.specs.declared.width.Width.the-variants.{U8, U16, U32};
-ghost use Rattle.words.specs.Command.{flagOf};
 ghost use Rattle.words.specs.Word.{laid};
-ghost use Rattle.bus.specs.Held.{queueOf, wireOf};
-ghost use Rattle.bus.specs.Trial.{stateOf};
-ghost use Rattle.c_api.specs.HostBus.{answerNumber, headWords, stateWords, boardOf, hostTrial, trialBy};
+ghost use Rattle.bus.specs.View.{wireOf, stateOf};
+ghost use Rattle.c_api.specs.HostBus.{answerNumber, headWords, stateWords, stateLeft, boardOf, hostTrial, trialBy};
 use crate::driver::driver_of;
 use bus::board::Board;
-use bus::fifo::Fifo;
 use bus::station::Station;
 use bus::trial::EndState;
+use bus::trial::Outcome;
 use bus::trial::trial;
-use machine::access::Access;
+use sequences::access::Access;
+use words::transaction::flag;
 use words::width::Width;
 
 fn least(a: usize, b: usize) -> usize
     ensures { λ r. ⌜ r ≡ min a b ⌝ }
 {
     if a < b { a } else { b }
-}
-
-fn flag(on: bool) -> u32
-    ensures { λ r. ⌜ r ≡ flagOf on ⌝ }
-{
-    if on { 1 } else { 0 }
 }
 
 // Document 01's number, 255 while there is no answer.
@@ -43,38 +36,6 @@ fn answer(access: Access) -> u32
     }
 }
 
-fn counted(words: &[u32], count: usize) -> u32
-    requires { ⌜ length (now words) ≡ 16 ⌝ }
-    ensures { λ r. ⌜ r ≡ min count (length (now (words .entry))) ⌝ }
-{
-    least(count, words.len()) as u32
-}
-
-// The words in a queue of 16 places.
-fn count_in(words: &[u32; 16], count: usize) -> u32
-    ensures { λ r. ⌜ r ≡ min count (length (now (words .entry))) ⌝ }
-{
-    counted(words, count)
-}
-
-fn count(fifo: Fifo) -> u32
-    ensures { λ r. ⌜ r ≡ length (queueOf fifo) ⌝ }
-{
-    let words = fifo.words;
-    count_in(&words, fifo.count)
-}
-
-// 0 past the queue's words.
-fn queued(fifo: Fifo, i: usize) -> u32
-    requires { ⌜ i < 16 ⌝ }
-    ensures { λ r. ⌜ r ≡ getD (queueOf fifo) i 0 ⌝ }
-{
-    if i < fifo.count {
-        return fifo.words[i];
-    }
-    0
-}
-
 fn head(station: Station) -> [u32; 6]
     ensures { λ r. ⌜ r ≡ headWords (station .transfer) (station .flush) (wireOf (station .port)) ⌝ }
 {
@@ -87,8 +48,8 @@ fn head(station: Station) -> [u32; 6]
     let flushed = answer(flush.next());
     let t = flag(port.t);
     let r = flag(port.r);
-    let sends = count(transmit);
-    let receives = count(receive);
+    let sends = transmit.len() as u32;
+    let receives = receive.len() as u32;
     [done, flushed, t, r, sends, receives]
 }
 
@@ -105,11 +66,11 @@ fn state_word(end: EndState, i: usize) -> u32
     let port = station.port;
     if i < 22 {
         let transmit = port.transmit;
-        return queued(transmit, i - 6);
+        return transmit.word(i - 6);
     }
     if i < 38 {
         let receive = port.receive;
-        return queued(receive, i - 22);
+        return receive.word(i - 22);
     }
     let registers = end.registers;
     registers[i - 38]
@@ -134,6 +95,20 @@ fn show(gate: EndState, antenna: EndState, state: &mut [u32])
     for i in 0..n {
         state[i] = pair_word(gate, antenna, i);
     }
+}
+
+// The number of a trial. At 9 `state` is as found.
+fn report(left: Outcome, state: &mut [u32]) -> u32
+    ensures { λ r. ⌜ (r ≡ left .number) × (now (state .exit) ≡ stateLeft (left .number) (stateOf (left .gate)) (stateOf (left .antenna)) (now (state .entry))) ⌝ }
+{
+    let number = left.number;
+    if number == 9 {
+        return number;
+    }
+    let gate = left.gate;
+    let antenna = left.antenna;
+    show(gate, antenna, state);
+    number
 }
 
 // In place where bit 0 of `inplace` is set.
@@ -190,10 +165,7 @@ pub extern "C" fn lpspi_trial_u8(
         &none_32,
         events,
     );
-    let gate_end = left.gate;
-    let antenna_end = left.antenna;
-    show(gate_end, antenna_end, state);
-    left.number
+    report(left, state)
 }
 
 #[no_mangle]
@@ -237,10 +209,7 @@ pub extern "C" fn lpspi_trial_u16(
         &none_32,
         events,
     );
-    let gate_end = left.gate;
-    let antenna_end = left.antenna;
-    show(gate_end, antenna_end, state);
-    left.number
+    report(left, state)
 }
 
 #[no_mangle]
@@ -284,8 +253,5 @@ pub extern "C" fn lpspi_trial_u32(
         antenna_write,
         events,
     );
-    let gate_end = left.gate;
-    let antenna_end = left.antenna;
-    show(gate_end, antenna_end, state);
-    left.number
+    report(left, state)
 }

@@ -4,11 +4,11 @@ ghost use mathlib.Core.List.{[]};
 ghost use Rattle.transfers.specs.Transfers.{transferLeft};
 ghost use Rattle.runs.specs.Flush.{flushRun};
 ghost use Rattle.c_api.specs.HostRun.{driverOf, hostLeft, ofTransfer, ofCall, transferBy};
-use crate::driver::driver_number;
 use crate::driver::driver_of;
-use machine::driver::Lpspi;
+use crate::driver::hand_back;
 use runs::flush::flush;
 use runs::result::RunResult;
+use sequences::driver::Lpspi;
 use transfers::exchange::exchange_u8;
 use transfers::exchange::exchange_u16;
 use transfers::exchange::exchange_u32;
@@ -59,15 +59,11 @@ pub extern "C" fn lpspi_transfer_u8(
     accesses: &mut usize,
     answers: &mut usize,
 ) -> u32
-    ensures { λ r. ⌜ hostLeft r (now (driver .exit)) (now (accesses .exit)) (now (answers .exit)) (now (log .exit)) (now (read .exit)) ≡ ofTransfer (transferBy kind 8 (driverOf (now (driver .entry))) (now (read .entry)) (now (write .entry)) budget (now (script .entry)) (now (log .entry))) ⌝ }
+    ensures { λ r. ⌜ hostLeft r (now (driver .exit)) (now (accesses .exit)) (now (answers .exit)) (now (log .exit)) (now (read .exit)) ≡ ofTransfer (now (driver .entry)) (transferBy kind 8 (driverOf (now (driver .entry))) (now (read .entry)) (now (write .entry)) budget (now (script .entry)) (now (log .entry))) ⌝ }
 {
     let d = driver_of(*driver);
     let r = transfer_u8(kind, d, read, write, budget, script, log);
-    *driver = driver_number(r.driver);
-    *accesses = r.accesses;
-    *answers = r.answers;
-    let ending = r.ending;
-    ending.number()
+    hand_back(r, driver, accesses, answers)
 }
 
 // The transfer of that number.
@@ -107,15 +103,11 @@ pub extern "C" fn lpspi_transfer_u16(
     accesses: &mut usize,
     answers: &mut usize,
 ) -> u32
-    ensures { λ r. ⌜ hostLeft r (now (driver .exit)) (now (accesses .exit)) (now (answers .exit)) (now (log .exit)) (now (read .exit)) ≡ ofTransfer (transferBy kind 16 (driverOf (now (driver .entry))) (now (read .entry)) (now (write .entry)) budget (now (script .entry)) (now (log .entry))) ⌝ }
+    ensures { λ r. ⌜ hostLeft r (now (driver .exit)) (now (accesses .exit)) (now (answers .exit)) (now (log .exit)) (now (read .exit)) ≡ ofTransfer (now (driver .entry)) (transferBy kind 16 (driverOf (now (driver .entry))) (now (read .entry)) (now (write .entry)) budget (now (script .entry)) (now (log .entry))) ⌝ }
 {
     let d = driver_of(*driver);
     let r = transfer_u16(kind, d, read, write, budget, script, log);
-    *driver = driver_number(r.driver);
-    *accesses = r.accesses;
-    *answers = r.answers;
-    let ending = r.ending;
-    ending.number()
+    hand_back(r, driver, accesses, answers)
 }
 
 // The transfer of that number.
@@ -155,15 +147,11 @@ pub extern "C" fn lpspi_transfer_u32(
     accesses: &mut usize,
     answers: &mut usize,
 ) -> u32
-    ensures { λ r. ⌜ hostLeft r (now (driver .exit)) (now (accesses .exit)) (now (answers .exit)) (now (log .exit)) (now (read .exit)) ≡ ofTransfer (transferBy kind 32 (driverOf (now (driver .entry))) (now (read .entry)) (now (write .entry)) budget (now (script .entry)) (now (log .entry))) ⌝ }
+    ensures { λ r. ⌜ hostLeft r (now (driver .exit)) (now (accesses .exit)) (now (answers .exit)) (now (log .exit)) (now (read .exit)) ≡ ofTransfer (now (driver .entry)) (transferBy kind 32 (driverOf (now (driver .entry))) (now (read .entry)) (now (write .entry)) budget (now (script .entry)) (now (log .entry))) ⌝ }
 {
     let d = driver_of(*driver);
     let r = transfer_u32(kind, d, read, write, budget, script, log);
-    *driver = driver_number(r.driver);
-    *accesses = r.accesses;
-    *answers = r.answers;
-    let ending = r.ending;
-    ending.number()
+    hand_back(r, driver, accesses, answers)
 }
 
 #[no_mangle]
@@ -175,13 +163,9 @@ pub extern "C" fn lpspi_flush(
     accesses: &mut usize,
     answers: &mut usize,
 ) -> u32
-    ensures { λ r. ⌜ hostLeft r (now (driver .exit)) (now (accesses .exit)) (now (answers .exit)) (now (log .exit)) [] ≡ ofCall (flushRun (driverOf (now (driver .entry))) budget (now (script .entry)) (now (log .entry))) ⌝ }
+    ensures { λ r. ⌜ hostLeft r (now (driver .exit)) (now (accesses .exit)) (now (answers .exit)) (now (log .exit)) [] ≡ ofCall (now (driver .entry)) (flushRun (driverOf (now (driver .entry))) budget (now (script .entry)) (now (log .entry))) ⌝ }
 {
     let d = driver_of(*driver);
     let r = flush(d, budget, script, log);
-    *driver = driver_number(r.driver);
-    *accesses = r.accesses;
-    *answers = r.answers;
-    let ending = r.ending;
-    ending.number()
+    hand_back(r, driver, accesses, answers)
 }

@@ -15,14 +15,14 @@ use Rattle.words.specs.declared.clock.ClockResult.the-variants.{Ok, ZeroClock}
 use Rattle.words.specs.declared.transaction.Direction.{Direction}
 use Rattle.words.specs.declared.transaction.Direction.the-variants.{Tx, Rx}
 use Rattle.words.specs.Clock.{ClockAnswer, clockAnswer, clocked}
-use Rattle.machine.specs.declared.call.Call.the-variants.{SetClockConfigs}
-use Rattle.machine.specs.declared.driver.Lpspi.{Lpspi}
-use Rattle.machine.specs.declared.sequence.Sequence.{Sequence}
-use Rattle.machine.specs.Access.{numberOf}
-use Rattle.machine.specs.Sequence.{waterOf}
+use Rattle.sequences.specs.declared.call.Call.the-variants.{SetClockConfigs}
+use Rattle.sequences.specs.declared.driver.Lpspi.{Lpspi}
+use Rattle.sequences.specs.declared.sequence.Sequence.{Sequence}
+use Rattle.sequences.specs.Access.{numberOf}
+use Rattle.sequences.specs.Sequence.{waterOf}
 use Rattle.runs.specs.declared.call.Called.{Called}
 use Rattle.runs.specs.declared.result.RunResult.{RunResult}
-use Rattle.runs.specs.Run.{Left, left, limits, refused}
+use Rattle.runs.specs.Run.{Left, left, limits, overLimits}
 use Rattle.runs.specs.Call.{CallLeft, callLeft, calledResult, callRun}
 use Rattle.calls.specs.Calls.{ranCall, valueLeft, valued, clockRefused, setClockHzRun}
 
@@ -55,7 +55,7 @@ abbrev chosen : Lpspi → ℕ → List ℕ → List ℕ → ClockAnswer → Left
 chosen d budget script log a = cond (eqb (a .number) 0) (ranCall (callRun d (SetClockConfigs (a .configs)) budget script log)) (clockRefused d log)
 
 module _ (d : Lpspi) (source clock budget : ℕ) (script log : List ℕ) {r : RunResult} where
-  pub clock-limits : limits budget log ≡ true → r ≡ refused d log .result → left r log ≡ setClockHzRun d source clock budget script log
+  pub clock-limits : limits budget log ≡ true → r ≡ overLimits d log .result → left r log ≡ setClockHzRun d source clock budget script log
   clock-limits t er = rw t (ap (λ (x : RunResult). left x log) er)
 
   module _ (x : ClockResult) (t : limits budget log ≡ false) (ex : clockAnswer x ≡ clocked source clock) where

@@ -5,13 +5,13 @@ use mathlib.Core.Bool.{cond}
 use mathlib.Core.List.{List}
 use lib.Dec.{eqb}
 use Rattle.words.specs.Clock.{clocked}
-use Rattle.machine.specs.declared.access.Ending.the-variants.{ZeroClock}
-use Rattle.machine.specs.declared.call.Call.the-variants.{SetClockConfigs}
-use Rattle.machine.specs.declared.driver.Lpspi.{Lpspi}
-use Rattle.machine.specs.declared.sequence.Sequence.{Sequence}
-use Rattle.machine.specs.Access.{numberOf}
+use Rattle.sequences.specs.declared.access.Ending.the-variants.{ZeroClock}
+use Rattle.sequences.specs.declared.call.Call.the-variants.{SetClockConfigs}
+use Rattle.sequences.specs.declared.driver.Lpspi.{Lpspi}
+use Rattle.sequences.specs.declared.sequence.Sequence.{Sequence}
+use Rattle.sequences.specs.Access.{numberOf}
 use Rattle.runs.specs.declared.result.RunResult.{RunResult}
-use Rattle.runs.specs.Run.{Left, left, limits, refused}
+use Rattle.runs.specs.Run.{Left, left, limits, unmoved, overLimits}
 use Rattle.runs.specs.Call.{CallLeft, calledResult, callRun}
 
 -- what a call leaves that has no value of its own
@@ -33,10 +33,10 @@ valued value none c =
 
 -- clock entry, 6: source or wanted clock is 0; all as found
 abbrev pub clockRefused : Lpspi → List ℕ → Left
-clockRefused d log = left (record { ending = ZeroClock; accesses = 0; answers = 0; driver = d }) log
+clockRefused d log = left (unmoved d ZeroClock) log
 
 -- number 5 comes before it
 abbrev pub setClockHzRun : Lpspi → ℕ → ℕ → ℕ → List ℕ → List ℕ → Left
 setClockHzRun d source clock budget script log =
-    cond (limits budget log) (refused d log)
+    cond (limits budget log) (overLimits d log)
     (cond (eqb (clocked source clock .number) 0) (ranCall (callRun d (SetClockConfigs (clocked source clock .configs)) budget script log)) (clockRefused d log))

@@ -13,11 +13,11 @@ use Rattle.manual.specs.declared.Rsr.the-variants.{RXEMPTY}
 use Rattle.manual.specs.Manual.{readField}
 use Rattle.words.specs.declared.transaction.Direction.{Direction}
 use Rattle.words.specs.declared.transaction.Direction.the-variants.{Tx, Rx}
-use Rattle.machine.specs.declared.sequence.Sequence.{Sequence}
-use Rattle.machine.specs.declared.status.Status.{Status}
+use Rattle.sequences.specs.declared.sequence.Sequence.{Sequence}
+use Rattle.sequences.specs.declared.status.Status.{Status}
 use Rattle.machine.specs.Poll.{depth}
-use Rattle.machine.specs.Sequence.{keptOf, waterOf, levelOf}
-use Rattle.machine.specs.Status.{statusOf}
+use Rattle.sequences.specs.Sequence.{keptOf, waterOf, levelOf}
+use Rattle.sequences.specs.Status.{statusOf}
 use Rattle.calls.specs.declared.results.FifoStatus.{FifoStatus}
 use Rattle.calls.specs.declared.results.Data.{Data}
 use Rattle.calls.specs.declared.results.Data.the-variants.{Word, Empty}

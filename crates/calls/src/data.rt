@@ -1,6 +1,6 @@
 // Words and commands.
 ghost use mathlib.Core.Path.{_≡_};
-ghost use Rattle.machine.specs.declared.call.Call.the-variants.{ReadData, EnqueueData, EnqueueTransaction};
+ghost use Rattle.sequences.specs.declared.call.Call.the-variants.{ReadData, EnqueueData, EnqueueTransaction};
 ghost use mathlib.Core.List.{[]};
 ghost use Rattle.runs.specs.Run.{left};
 ghost use Rattle.runs.specs.Call.{callRun};
@@ -10,14 +10,14 @@ use crate::entry::is_ok;
 use crate::entry::result;
 use crate::results::Data;
 use crate::results::DataResult;
-use machine::call::Call;
-use machine::driver::Lpspi;
-use machine::sequence::Sequence;
 use manual::Field;
 use manual::Register;
 use manual::Rsr;
 use runs::call::run_call;
 use runs::result::RunResult;
+use sequences::call::Call;
+use sequences::driver::Lpspi;
+use sequences::sequence::Sequence;
 use words::transaction::Transaction;
 
 fn data(sequence: Sequence) -> Data

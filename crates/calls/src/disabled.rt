@@ -1,19 +1,18 @@
 // Settings that are changed while the peripheral is disabled: entry, operation, restore of MEN.
 ghost use mathlib.Core.Path.{_≡_};
-ghost use Rattle.machine.specs.declared.call.Call.the-variants.{SetClockConfigs, SetSamplePoint, SetPeripheralEnable, SetChipSelectPolarity};
+ghost use Rattle.sequences.specs.declared.call.Call.the-variants.{SetClockConfigs, SetSamplePoint, SetPeripheralEnable, SetChipSelectPolarity};
 ghost use Rattle.runs.specs.Run.{left};
 ghost use Rattle.runs.specs.Call.{callRun};
 ghost use Rattle.calls.specs.Calls.{ranCall, setClockHzRun};
 use crate::entry::result;
-use crate::entry::unmoved;
-use machine::access::Ending;
-use machine::call::Call;
-use machine::driver::Lpspi;
-use machine::settings::PcsPolarity;
-use machine::settings::SamplePoint;
 use runs::call::run_call;
 use runs::log::limits;
 use runs::result::RunResult;
+use sequences::access::Ending;
+use sequences::call::Call;
+use sequences::driver::Lpspi;
+use sequences::settings::PcsPolarity;
+use sequences::settings::SamplePoint;
 use words::clock::ClockConfigs;
 use words::clock::ClockResult;
 use words::mode::Pcs;
@@ -30,13 +29,13 @@ pub fn set_clock_hz(
     ensures { λ r. ⌜ left r (now (log .exit)) ≡ setClockHzRun driver «source_clock_hz» «clock_hz» budget (now (script .entry)) (now (log .entry)) ⌝ }
 {
     if limits(budget, log) {
-        return unmoved(driver, Ending::Limits);
+        return RunResult::unmoved(driver, Ending::Limits);
     }
     match ClockConfigs::from_hz(source_clock_hz, clock_hz) {
         ClockResult::Ok(clock) => {
             result(run_call(driver, Call::SetClockConfigs(clock), budget, script, log))
         }
-        ClockResult::ZeroClock => unmoved(driver, Ending::ZeroClock),
+        ClockResult::ZeroClock => RunResult::unmoved(driver, Ending::ZeroClock),
     }
 }
 

@@ -1,12 +1,12 @@
 // What all calls share.
 ghost use mathlib.Core.Path.{_≡_};
 ghost use lib.Dec.{eqb};
-ghost use Rattle.machine.specs.Access.{numberOf};
+ghost use Rattle.sequences.specs.Access.{numberOf};
 ghost use Rattle.runs.specs.Call.{calledResult};
-use machine::access::Ending;
-use machine::driver::Lpspi;
 use runs::call::Called;
 use runs::result::RunResult;
+use sequences::access::Ending;
+use sequences::driver::Lpspi;
 
 pub(crate) fn result(called: Called) -> RunResult
     ensures { λ r. ⌜ r ≡ calledResult called ⌝ }
@@ -27,16 +27,4 @@ pub(crate) fn is_ok(called: Called) -> bool
 {
     let ending = called.ending;
     ending.number() == 0
-}
-
-// What a call answers that made no access.
-pub(crate) fn unmoved(driver: Lpspi, ending: Ending) -> RunResult
-    ensures { λ r. ⌜ r ≡ record { ending = ending; accesses = 0; answers = 0; driver = driver } ⌝ }
-{
-    RunResult {
-        ending,
-        accesses: 0,
-        answers: 0,
-        driver,
-    }
 }

@@ -1,6 +1,6 @@
 // The FIFOs.
 ghost use mathlib.Core.Path.{_≡_};
-ghost use Rattle.machine.specs.declared.call.Call.the-variants.{GetWatermark, SetWatermark, ClearFifo, GetFifoStatus};
+ghost use Rattle.sequences.specs.declared.call.Call.the-variants.{GetWatermark, SetWatermark, ClearFifo, GetFifoStatus};
 ghost use Rattle.runs.specs.Run.{left};
 ghost use Rattle.runs.specs.Call.{callRun};
 ghost use Rattle.calls.specs.Calls.{ranCall, valueLeft, valued};
@@ -10,17 +10,17 @@ use crate::entry::result;
 use crate::results::FifoResult;
 use crate::results::FifoStatus;
 use crate::results::LevelResult;
-use machine::call::Call;
-use machine::driver::Lpspi;
 use machine::poll::depth;
-use machine::sequence::level;
-use machine::sequence::water;
 use manual::Field;
 use manual::Fsr;
 use manual::Param;
 use manual::Register;
 use runs::call::run_call;
 use runs::result::RunResult;
+use sequences::call::Call;
+use sequences::driver::Lpspi;
+use sequences::sequence::level;
+use sequences::sequence::water;
 use words::transaction::Direction;
 
 // The direction's watermark.

@@ -1,14 +1,14 @@
 // Resets.
 ghost use mathlib.Core.Path.{_≡_};
-ghost use Rattle.machine.specs.declared.call.Call.the-variants.{SoftReset, RecoverFromError, Init};
+ghost use Rattle.sequences.specs.declared.call.Call.the-variants.{SoftReset, RecoverFromError, Init};
 ghost use Rattle.runs.specs.Run.{left};
 ghost use Rattle.runs.specs.Call.{callRun};
 ghost use Rattle.calls.specs.Calls.{ranCall};
 use crate::entry::result;
-use machine::call::Call;
-use machine::driver::Lpspi;
 use runs::call::run_call;
 use runs::result::RunResult;
+use sequences::call::Call;
+use sequences::driver::Lpspi;
 
 // Reset all internal logic while preserving the driver's configurations.
 pub fn soft_reset(driver: Lpspi, budget: usize, script: &[u32], log: &mut [u32]) -> RunResult

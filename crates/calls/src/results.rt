@@ -1,8 +1,8 @@
 // What calls with a value answer. The value comes with Ok; refused or stopped it is 0, false or nothing.
 ghost use mathlib.Core.Path.{_≡_};
 ghost use Rattle.calls.specs.Values.{isFull};
-use machine::status::Status;
 use runs::result::RunResult;
+use sequences::status::Status;
 use words::transaction::Direction;
 
 pub struct LevelResult {

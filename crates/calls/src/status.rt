@@ -1,7 +1,7 @@
 // Status and enabled state.
 ghost use mathlib.Core.Path.{_≡_};
 ghost use mathlib.Core.Bool.{false};
-ghost use Rattle.machine.specs.declared.call.Call.the-variants.{GetStatus, ClearStatus, IsEnabled, SetEnable};
+ghost use Rattle.sequences.specs.declared.call.Call.the-variants.{GetStatus, ClearStatus, IsEnabled, SetEnable};
 ghost use Rattle.runs.specs.Run.{left};
 ghost use Rattle.runs.specs.Call.{callRun};
 ghost use Rattle.calls.specs.Calls.{ranCall, valueLeft, valued};
@@ -10,13 +10,13 @@ use crate::entry::is_ok;
 use crate::entry::result;
 use crate::results::EnabledResult;
 use crate::results::StatusResult;
-use machine::call::Call;
-use machine::driver::Lpspi;
-use machine::status::Status;
 use manual::Cr;
 use manual::Field;
 use runs::call::run_call;
 use runs::result::RunResult;
+use sequences::call::Call;
+use sequences::driver::Lpspi;
+use sequences::status::Status;
 
 // The status flags.
 pub fn status(driver: Lpspi, budget: usize, script: &[u32], log: &mut [u32]) -> StatusResult

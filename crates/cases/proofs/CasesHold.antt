@@ -1,7 +1,7 @@
 -- The cases hold: one test over the whole list, which the checker computes, and a law that turns a passed test into equations.
 -- Assumes nothing.
 use Prim.Native.Nat.{ℕ}
-use mathlib.Core.Bool.{Bool, true, false, _&&_}
+use mathlib.Core.Bool.{Bool, true, _&&_}
 use mathlib.Core.List.{List, [], _∷_}
 use mathlib.Core.Path.{_≡_, refl, ap₂}
 use lib.Dec.{T, eqb, eqb→eq}

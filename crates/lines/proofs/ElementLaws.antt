@@ -10,7 +10,7 @@ use lib.Dec.{leb}
 use lib.ListN.{length, length-append}
 use Rattle.lines.specs.Text.{space, split, bind, only}
 use Rattle.lines.specs.declared.parse.Number.{Number}
-use Rattle.lines.specs.Parse.{Elements}
+use Rattle.lines.specs.Parse.{LineRead}
 use Rattle.lines.specs.Grammar.{element, elements, lineElements}
 
 -- those before, and the fields that are left
@@ -47,5 +47,5 @@ empty-line k most [] h = refl
 empty-line k most (b ∷ bs) h = absurd (omega arith)
 
 -- an answer of the code
-pub as-elements : (k most : ℕ) (line out : List ℕ) (r r′ : Number) → r ≡ r′ → Elements k most line out r → Elements k most line out r′
-as-elements k most line out r r′ e h = subst (Elements k most line out) e h
+pub as-elements : (k most : ℕ) (line out : List ℕ) (r r′ : Number) → r ≡ r′ → LineRead k most line out r → LineRead k most line out r′
+as-elements k most line out r r′ e h = subst (LineRead k most line out) e h

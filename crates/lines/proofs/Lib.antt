@@ -1,7 +1,7 @@
-pub mod TextLaws
-pub mod PartLaws
-pub mod ElementLaws
-pub mod JobLaws
-pub mod WrittenLaws
-pub mod ListingLaws
-pub mod PrintedLaws
+mod TextLaws
+mod PartLaws
+mod ElementLaws
+pub mod TaskLaws
+mod WrittenLaws
+mod ListingLaws
+mod PrintedLaws

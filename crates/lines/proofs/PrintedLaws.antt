@@ -6,8 +6,8 @@ use mathlib.Core.Path.{_≡_, refl, sym, ap, _∙_, subst}
 use native.Mathlib.Omega.{arith}
 use lib.ListN.{length, take, length-append}
 use lib.Seq.{take-all}
-use Rattle.machine.specs.declared.driver.Lpspi.{Lpspi}
-use Rattle.machine.specs.Access.{numberOf}
+use Rattle.sequences.specs.declared.driver.Lpspi.{Lpspi}
+use Rattle.sequences.specs.Access.{numberOf}
 use Rattle.runs.specs.declared.result.RunResult.{RunResult}
 use Rattle.transfers.specs.Transfers.{TransferLeft, transferLeft, separatePlan, exchangeSeparate}
 use Rattle.transfers.proofs.CallLaws.{Counts, call-counts}

@@ -7,7 +7,6 @@ use native.Mathlib.Numerals.{add-one}
 use native.Mathlib.Omega.{arith}
 use lib.ListN.{length, getD, take, set, length-append}
 use lib.Seq.{take-suc, take-suc-set}
-use Rattle.words.proofs.BufferLaws.{length-laid}
 use Rattle.lines.specs.Text.{glyph, digits, written}
 
 pub length-digits : (base k n : ℕ) → length (digits base k n) ≡ k
@@ -51,17 +50,6 @@ written-append (x ∷ xs) (suc at) (suc n) s t e = ap (λ (l : List ℕ). x ∷ 
 -- the same, of a buffer that was written in two steps
 pub written-then : (out mid end : List ℕ) (at n : ℕ) (s t : List ℕ) → n ≡ at + length s → mid ≡ written out at s → end ≡ written mid n t → end ≡ written out at (s ++ t)
 written-then out mid end at n s t e em ee = ee ∙ ap (λ (l : List ℕ). written l n t) em ∙ written-append out at n s t e
-
-pub length-written : (out : List ℕ) (at : ℕ) (text : List ℕ) → length (written out at text) ≡ length out
-length-written out zero text = length-laid text out
-length-written [] (suc at) text = refl
-length-written (b ∷ bs) (suc at) text = ap suc (length-written bs at text)
-
--- what was written from the front on stands there
-pub written-front : (out text : List ℕ) → length text ≤ length out → take (length text) (written out 0 text) ≡ text
-written-front out [] h = refl
-written-front [] (y ∷ ys) h = absurd (omega arith)
-written-front (x ∷ xs) (y ∷ ys) h = ap (λ (l : List ℕ). y ∷ l) (written-front xs ys (omega arith))
 
 -- DIGITS: the last one is stored, and the others are left
 digits-step : (base l n : ℕ) → 0 < l → digits base l n ≡ digits base (l - 1) (n / base) ++ (glyph (n % base) ∷ [])

@@ -12,7 +12,7 @@ use Rattle.lines.specs.declared.parse.Header.{Header}
 use Rattle.lines.specs.Text.{bytes, newline, space, same, split, bind, only, numeral}
 
 -- what a technician asks for
-pub record Job : Type 0 where
+pub record Task : Type 0 where
   pub header : Header
   pub write : List ℕ
   pub read : ℕ
@@ -55,17 +55,17 @@ header (w ∷ o ∷ n ∷ []) = bind (widthOf w) (λ k. bind (orderOf o) (λ ord
 header (w ∷ o ∷ n ∷ x ∷ xs) = none
 
 -- at most 512 elements written, 512 read, 8,000 answers
-abbrev pub askedWith : Header → List ℕ → List ℕ → List ℕ → Option Job
+abbrev pub askedWith : Header → List ℕ → List ℕ → List ℕ → Option Task
 askedWith s write read script =
     bind (lineElements (s .width) 512 write) (λ ws.
     bind (bind (count read) (λ n. only (leb n 512) n)) (λ n.
     bind (lineElements 32 8000 script) (λ vs. some (record { header = s; write = ws; read = n; script = vs }))))
 
-abbrev pub asked : List ℕ → List ℕ → List ℕ → List ℕ → Option Job
+abbrev pub asked : List ℕ → List ℕ → List ℕ → List ℕ → Option Task
 asked first write read script = bind (header (split space first)) (λ s. askedWith s write read script)
 
 -- four lines; after the last there may be a newline
-abbrev pub lines : List (List ℕ) → Option Job
+abbrev pub lines : List (List ℕ) → Option Task
 lines [] = none
 lines (a ∷ []) = none
 lines (a ∷ b ∷ []) = none
@@ -75,5 +75,5 @@ lines (a ∷ b ∷ c ∷ d ∷ [] ∷ []) = asked a b c d
 lines (a ∷ b ∷ c ∷ d ∷ (e ∷ es) ∷ []) = none
 lines (a ∷ b ∷ c ∷ d ∷ e ∷ f ∷ fs) = none
 
-abbrev pub job : List ℕ → Option Job
-job text = lines (split newline text)
+abbrev pub task : List ℕ → Option Task
+task text = lines (split newline text)

@@ -14,7 +14,7 @@ use Rattle.lines.specs.declared.parse.Order.the-variants.{Named, Unknown
 use Rattle.lines.specs.declared.parse.Parsed.{Parsed}
 use Rattle.lines.specs.declared.parse.Parsed.the-variants.{Request, Malformed}
 use Rattle.lines.specs.declared.parse.Header.{Header}
-use Rattle.lines.specs.Grammar.{Job, lineElements}
+use Rattle.lines.specs.Grammar.{Task, lineElements}
 use Rattle.lines.specs.declared.parse.Number.{Number}
 use Rattle.lines.specs.declared.parse.Number.the-variants.{Value, Bad}
 
@@ -23,9 +23,9 @@ numberAnswer (Value n) = some n
 numberAnswer Bad = none
 
 -- elements that were read stand at the front of a buffer; a line that was refused has none
-abbrev pub Elements : ℕ → ℕ → List ℕ → List ℕ → Number → Type 0
-Elements k most line out (Value n) = (n ≤ length out) × (lineElements k most line ≡ some (take n out))
-Elements k most line out Bad = lineElements k most line ≡ none
+abbrev pub LineRead : ℕ → ℕ → List ℕ → List ℕ → Number → Type 0
+LineRead k most line out (Value n) = (n ≤ length out) × (lineElements k most line ≡ some (take n out))
+LineRead k most line out Bad = lineElements k most line ≡ none
 
 abbrev pub orderAnswer : Order → Option BitOrder
 orderAnswer (Named o) = some o
@@ -36,14 +36,14 @@ headerAnswer (Line s) = some s
 headerAnswer Refused = none
 
 -- what was asked for: the header, the length of the read buffer, and the elements at the fronts of two buffers
-abbrev pub Answers : Option Job → List ℕ → List ℕ → Parsed → Type 0
+abbrev pub Answers : Option Task → List ℕ → List ℕ → Parsed → Type 0
 Answers o write script (Request q) =
     (q .writes ≤ length write) × (q .reads ≤ 512) × (q .answers ≤ length script)
     × (o ≡ some (record { header = q .header; write = take (q .writes) write; read = q .reads; script = take (q .answers) script }))
 Answers o write script Malformed = o ≡ none
 
--- what every job has
-pub record Sound (j : Job) : Type 0 where
+-- what every task has
+pub record Sound (j : Task) : Type 0 where
   pub width : (j .header .width ≡ 8) ⊎ (j .header .width ≡ 16) ⊎ (j .header .width ≡ 32)
   pub budget : j .header .budget < 2 ^ 32
   pub write : length (j .write) ≤ 512

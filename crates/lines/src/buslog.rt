@@ -1,10 +1,9 @@
 // `buslog` over slices: the text that the program reads, and the text that it prints.
 ghost use Prim.Native.Nat.{_≤_, min};
-ghost use mathlib.Core.List.{[], _∷_};
 ghost use mathlib.Core.Option.{none};
 ghost use mathlib.Core.Path.{_≡_};
 ghost use lib.ListN.{length};
-ghost use Rattle.machine.specs.Driver.{startDriver, withOrder};
+ghost use Rattle.sequences.specs.Driver.{startDriver, withOrder};
 ghost use Rattle.transfers.specs.Transfers.{exchangeSeparate};
 ghost use Rattle.lines.specs.Buslog.{zeros, listing, exchanged, answer, buslog as buslogOf, Printed};
 ghost use Rattle.lines.specs.Parse.{Sound};
@@ -13,9 +12,9 @@ use crate::list::run_u16;
 use crate::list::run_u32;
 use crate::parse::Header;
 use crate::parse::Parsed;
-use crate::parse::read_job;
+use crate::parse::read_task;
 use crate::print::put;
-use machine::driver::Lpspi;
+use sequences::driver::Lpspi;
 
 // The longest input.
 pub const INPUT: usize = 131_072;
@@ -81,7 +80,7 @@ pub fn buslog(input: &[u8], out: &mut [u8; OUTPUT]) -> usize
     }
     let mut written = [0u32; 512];
     let mut answers = [0u32; 8_000];
-    match read_job(input, &mut written, &mut answers) {
+    match read_task(input, &mut written, &mut answers) {
         Parsed::Malformed => bad(out),
         Parsed::Request(asked) => {
             let writes = asked.writes;

@@ -9,7 +9,7 @@ use crate::print::bytes;
 use crate::print::halves;
 use crate::print::result_line;
 use crate::print::words;
-use machine::driver::Lpspi;
+use sequences::driver::Lpspi;
 use transfers::exchange_separate::exchange_separate_u8;
 use transfers::exchange_separate::exchange_separate_u16;
 use transfers::exchange_separate::exchange_separate_u32;

@@ -1,12 +1,12 @@
-// The input: numbers, lines, and the job that they ask for.
+// The input: numbers, lines, and the task that they ask for.
 ghost use Prim.Native.Nat.{_+_, _<_, _≤_};
 ghost use mathlib.Core.List.{[], _∷_};
 ghost use mathlib.Core.Path.{_≡_};
 ghost use lib.Dec.{leb};
 ghost use lib.ListN.{length, drop};
 ghost use Rattle.lines.specs.Text.{space, split, bind, only, same as sameOf, digit as digitOf, digitIn, upTo, numeral};
-ghost use Rattle.lines.specs.Grammar.{small, count as countOf, element, widthOf, orderOf, header as headerOf, askedWith, asked as askedOf, job};
-ghost use Rattle.lines.specs.Parse.{numberAnswer, orderAnswer, headerAnswer, Elements, Answers};
+ghost use Rattle.lines.specs.Grammar.{small, count as countOf, element, widthOf, orderOf, header as headerOf, askedWith, asked as askedOf, task};
+ghost use Rattle.lines.specs.Parse.{numberAnswer, orderAnswer, headerAnswer, LineRead, Answers};
 use words::order::BitOrder;
 
 pub(crate) enum Number {
@@ -137,7 +137,7 @@ fn read_element(k: usize, field: &[u8]) -> Number
 // The elements of a line over the front of a buffer, and how many; at most so many.
 fn read_elements(k: usize, most: usize, line: &[u8], out: &mut [u32]) -> Number
     requires { ⌜ (k ≤ 32) × (most ≤ length (now out)) × (most < 4294967296) ⌝ }
-    ensures { λ r. ⌜ Elements k most (now (line .entry)) (now (out .exit)) r ⌝ }
+    ensures { λ r. ⌜ LineRead k most (now (line .entry)) (now (out .exit)) r ⌝ }
 {
     if line.len() == 0 {
         return Number::Value(0);
@@ -313,10 +313,10 @@ fn read_lines(
     }
 }
 
-// The job of a text, and its elements at the fronts of two buffers.
-pub(crate) fn read_job(text: &[u8], written: &mut [u32], answers: &mut [u32]) -> Parsed
+// The task of a text, and its elements at the fronts of two buffers.
+pub(crate) fn read_task(text: &[u8], written: &mut [u32], answers: &mut [u32]) -> Parsed
     requires { ⌜ (512 ≤ length (now written)) × (8000 ≤ length (now answers)) ⌝ }
-    ensures { λ r. ⌜ Answers (job (now (text .entry))) (now (written .exit)) (now (answers .exit)) r ⌝ }
+    ensures { λ r. ⌜ Answers (task (now (text .entry))) (now (written .exit)) (now (answers .exit)) r ⌝ }
 {
     let a = up_to(text, 0, 10);
     if text.len() <= a {

@@ -3,7 +3,7 @@ ghost use Prim.Native.Nat.{_+_, _*_, _<_, _≤_};
 ghost use mathlib.Core.List.{[], _∷_};
 ghost use mathlib.Core.Path.{_≡_};
 ghost use lib.ListN.{length, take};
-ghost use Rattle.lines.specs.Text.{newline, space, glyph as glyphOf, digits as digitsOf, places as placesOf, decimal as decimalOf, written};
+ghost use Rattle.lines.specs.Text.{glyph as glyphOf, digits as digitsOf, places as placesOf, decimal as decimalOf, written};
 ghost use Rattle.lines.specs.Listing.{kind as kindOf, accessLine, accessLines, elementLine, elementLines, resultLine};
 
 fn glyph(digit: u32) -> u8

@@ -1,9 +1,9 @@
 // Runs over a script and prints them as document 01's `buslog` does: the accesses, the read elements, then result, accesses made and answers
 // used.
 use libc::STDOUT_FILENO;
-use machine::driver::Lpspi;
 use runs::flush::flush;
 use runs::result::RunResult;
+use sequences::driver::Lpspi;
 use transfers::exchange::exchange_u8;
 use transfers::exchange::exchange_u16;
 use transfers::exchange::exchange_u32;

@@ -10,9 +10,9 @@ use Rattle.manual.specs.declared.Sr.the-variants.{TEF, REF, MBF}
 use Rattle.manual.specs.Manual.{readField}
 use Rattle.words.specs.declared.transaction.Direction.the-variants.{Tx, Rx}
 use Rattle.words.specs.declared.transaction.LpspiError.the-variants.{Fifo}
-use Rattle.machine.specs.declared.access.Access.{Access}
-use Rattle.machine.specs.declared.access.Access.the-variants.{Read, Done}
-use Rattle.machine.specs.declared.access.Ending.the-variants.{Ok, Err}
+use Rattle.sequences.specs.declared.access.Access.{Access}
+use Rattle.sequences.specs.declared.access.Access.the-variants.{Read, Done}
+use Rattle.sequences.specs.declared.access.Ending.the-variants.{Ok, Err}
 use Rattle.machine.specs.declared.flush.Flush.{Flush}
 use Rattle.machine.specs.declared.flush.Flush.the-variants.{Status, Sizes, Counts, Ended}
 

@@ -11,8 +11,8 @@ use Rattle.manual.specs.declared.Sr.the-variants.{TEF, REF}
 use Rattle.manual.specs.Manual.{readField}
 use Rattle.words.specs.declared.transaction.Direction.{Direction}
 use Rattle.words.specs.declared.transaction.Direction.the-variants.{Tx, Rx}
-use Rattle.machine.specs.declared.access.Access.{Access}
-use Rattle.machine.specs.declared.access.Access.the-variants.{Read}
+use Rattle.sequences.specs.declared.access.Access.{Access}
+use Rattle.sequences.specs.declared.access.Access.the-variants.{Read}
 use Rattle.machine.specs.declared.poll.Poll.{Poll}
 use Rattle.machine.specs.declared.poll.Poll.the-variants.{Status, Sizes, Counts}
 use Rattle.machine.specs.declared.poll.Polled.{Polled}

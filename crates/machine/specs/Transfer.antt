@@ -8,25 +8,25 @@ use Rattle.manual.specs.declared.Register.the-variants.{TCR}
 use Rattle.words.specs.declared.transaction.Direction.{Direction}
 use Rattle.words.specs.declared.transaction.Direction.the-variants.{Tx, Rx}
 use Rattle.words.specs.declared.transaction.LpspiError.the-variants.{Fifo}
-use Rattle.machine.specs.declared.access.Access.{Access}
-use Rattle.machine.specs.declared.access.Access.the-variants.{Write, Done, Send as SendWord, Receive as ReceiveWord}
-use Rattle.machine.specs.declared.access.Ending.{Ending}
-use Rattle.machine.specs.declared.access.Ending.the-variants.{Ok, Err}
-use Rattle.machine.specs.declared.driver.Lpspi.{Lpspi}
+use Rattle.sequences.specs.declared.access.Access.{Access}
+use Rattle.sequences.specs.declared.access.Access.the-variants.{Write, Done, Send as SendWord, Receive as ReceiveWord}
+use Rattle.sequences.specs.declared.access.Ending.{Ending}
+use Rattle.sequences.specs.declared.access.Ending.the-variants.{Ok, Err}
+use Rattle.sequences.specs.declared.driver.Lpspi.{Lpspi}
 use Rattle.machine.specs.declared.poll.Poll.{Poll}
 use Rattle.machine.specs.declared.poll.Poll.the-variants.{Status}
 use Rattle.machine.specs.declared.poll.Polled.{Polled}
 use Rattle.machine.specs.declared.poll.Polled.the-variants.{Failed, Next, Ready, Unready}
-use Rattle.machine.specs.declared.sequence.Sequence.{Sequence}
-use Rattle.machine.specs.declared.transfer.Phase.{Phase}
-use Rattle.machine.specs.declared.transfer.Phase.the-variants.{Space, Command, Sending, Send, Receiving, Receive, Recovery, Ended}
+use Rattle.sequences.specs.declared.sequence.Sequence.{Sequence}
+use Rattle.machine.specs.declared.transfer.Stage.{Stage}
+use Rattle.machine.specs.declared.transfer.Stage.the-variants.{Space, Command, Sending, Send, Receiving, Receive, Recovery, Ended}
 use Rattle.machine.specs.declared.transfer.Work.{Work}
 use Rattle.machine.specs.declared.transfer.Transfer.{Transfer}
 use Rattle.machine.specs.Poll.{pollAccess, polled}
-use Rattle.machine.specs.Sequence.{sequenceStart}
-use Rattle.machine.specs.Recovery.{recoveryAccess, recoveryAfter, recovered}
+use Rattle.sequences.specs.Sequence.{sequenceStart}
+use Rattle.sequences.specs.Recovery.{recoveryAccess, recoveryAfter, recovered}
 
-abbrev pub at : Phase → Work → Sequence → Transfer
+abbrev pub at : Stage → Work → Sequence → Transfer
 at p w r = record { phase = p; work = w; reset = r }
 
 -- FIFO words to send and to receive, none of them done
@@ -42,15 +42,15 @@ abbrev pub endedTransfer : Lpspi → Ending → Transfer
 endedTransfer d e = at (Ended e) (work 0 0 0) (sequenceStart d)
 
 -- the sending side goes on while it has words left; then the receiving side; when both have ended, Ok
-abbrev pub sendTurn : Work → Phase
+abbrev pub sendTurn : Work → Stage
 sendTurn w =
     cond (ltb (w .sent) (w .send)) (Sending Status) (cond (ltb (w .received) (w .receive)) (Receiving Status) (Ended Ok))
 
-abbrev pub receiveTurn : Work → Phase
+abbrev pub receiveTurn : Work → Stage
 receiveTurn w =
     cond (ltb (w .received) (w .receive)) (Receiving Status) (cond (ltb (w .sent) (w .send)) (Sending Status) (Ended Ok))
 
-abbrev pub turnOf : Direction → Work → Phase
+abbrev pub turnOf : Direction → Work → Stage
 turnOf Tx = sendTurn
 turnOf Rx = receiveTurn
 
@@ -76,40 +76,40 @@ oneReceived w =
     record { command = w .command; send = w .send; receive = w .receive; sent = w .sent; received = counted (w .received) (w .receive) }
 
 -- an error before TCR does no recovery
-abbrev pub spaceBy : Polled → Phase
+abbrev pub spaceBy : Polled → Stage
 spaceBy Failed = Ended (Err (Fifo Tx))
 spaceBy (Next p) = Space p
 spaceBy Ready = Command
 spaceBy Unready = Space Status
 
 -- a later one does; the side that must wait gives the turn to the other
-abbrev pub sendingBy : Work → Polled → Phase
+abbrev pub sendingBy : Work → Polled → Stage
 sendingBy w Failed = Recovery Tx
 sendingBy w (Next p) = Sending p
 sendingBy w Ready = Send
 sendingBy w Unready = receiveTurn w
 
-abbrev pub receivingBy : Work → Polled → Phase
+abbrev pub receivingBy : Work → Polled → Stage
 receivingBy w Failed = Recovery Rx
 receivingBy w (Next p) = Receiving p
 receivingBy w Ready = Receive
 receivingBy w Unready = sendTurn w
 
-abbrev pub afterSpace : Poll → ℕ → Phase
+abbrev pub afterSpace : Poll → ℕ → Stage
 afterSpace p v = spaceBy (polled Tx p v)
 
-abbrev pub afterSending : Poll → Work → ℕ → Phase
+abbrev pub afterSending : Poll → Work → ℕ → Stage
 afterSending p w v = sendingBy w (polled Tx p v)
 
-abbrev pub afterReceiving : Poll → Work → ℕ → Phase
+abbrev pub afterReceiving : Poll → Work → ℕ → Stage
 afterReceiving p w v = receivingBy w (polled Rx p v)
 
 -- the error is answered once the recovery is done
-abbrev pub afterRecovery : Direction → Sequence → Phase
+abbrev pub afterRecovery : Direction → Sequence → Stage
 afterRecovery d r = cond (recovered r) (Ended (Err (Fifo d))) (Recovery d)
 
 -- THE ACCESS THAT IS DUE
-abbrev dueIn : Phase → Work → Sequence → Access
+abbrev dueIn : Stage → Work → Sequence → Access
 dueIn (Space p) w r = pollAccess p
 dueIn Command w r = Write TCR (w .command)
 dueIn (Sending p) w r = pollAccess p
@@ -123,7 +123,7 @@ unfoldable pub dueAccess : Transfer → Access
 dueAccess t = dueIn (t .phase) (t .work) (t .reset)
 
 -- THE TRANSFER AFTER IT, which was answered v
-abbrev resumedIn : Phase → Work → Sequence → ℕ → Transfer
+abbrev resumedIn : Stage → Work → Sequence → ℕ → Transfer
 resumedIn (Space p) w r v = at (afterSpace p v) w r
 resumedIn Command w r v = at (sendTurn w) w r
 resumedIn (Sending p) w r v = at (afterSending p w v) w r

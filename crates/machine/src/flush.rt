@@ -1,12 +1,12 @@
 // The machine of a flush.
 ghost use mathlib.Core.Path.{_≡_};
 ghost use Rattle.machine.specs.Flush.{flushAccess, flushed};
-use crate::access::Access;
-use crate::access::Ending;
 use manual::Field;
 use manual::Fsr;
 use manual::Register;
 use manual::Sr;
+use sequences::access::Access;
+use sequences::access::Ending;
 use words::transaction::Direction;
 use words::transaction::LpspiError;
 

@@ -1,12 +1,12 @@
 // One poll of a FIFO: the status, the FIFO sizes, the counts.
 ghost use mathlib.Core.Path.{_≡_};
 ghost use Rattle.machine.specs.Poll.{pollAccess, polled, depth, failed, ready};
-use crate::access::Access;
 use manual::Field;
 use manual::Fsr;
 use manual::Param;
 use manual::Register;
 use manual::Sr;
+use sequences::access::Access;
 use words::transaction::Direction;
 
 // The read that is due; with the counts, what PARAM answered before them.

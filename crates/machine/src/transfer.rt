@@ -1,23 +1,24 @@
 // The machine of a transfer.
 ghost use mathlib.Core.Path.{_≡_};
 ghost use Rattle.machine.specs.Transfer.{startTransfer, endedTransfer, sendTurn, receiveTurn, turnOf, counted, oneSent, oneReceived, afterSpace, afterSending, afterReceiving, afterRecovery, at, turnAt, dueAccess, resumed};
-use crate::access::Access;
-use crate::access::Ending;
-use crate::driver::Lpspi;
 use crate::poll::Poll;
 use crate::poll::Polled;
 use crate::poll::poll_access;
 use crate::poll::poll_answered;
-use crate::recovery::is_recovered;
-use crate::recovery::recovery_move;
-use crate::sequence::Sequence;
 use manual::Register;
+use sequences::access::Access;
+use sequences::access::Ending;
+use sequences::driver::Lpspi;
+use sequences::recovery::is_recovered;
+use sequences::recovery::recovery_access;
+use sequences::recovery::recovery_after;
+use sequences::sequence::Sequence;
 use words::transaction::Direction;
 use words::transaction::LpspiError;
 use words::transaction::Transaction;
 
 // Where a transfer stands.
-pub enum Phase {
+pub enum Stage {
     // Waiting for a place for the command.
     Space(Poll),
     Command,
@@ -41,37 +42,37 @@ pub struct Work {
 }
 
 pub struct Transfer {
-    phase: Phase,
+    phase: Stage,
     work: Work,
     reset: Sequence,
 }
 
 // The sending side's turn: it goes on if it has words left, else the receiving side, else the transfer has ended.
-fn send_turn(work: Work) -> Phase
+fn send_turn(work: Work) -> Stage
     ensures { λ r. ⌜ r ≡ sendTurn work ⌝ }
 {
     if work.sent < work.send {
-        return Phase::Sending(Poll::Status);
+        return Stage::Sending(Poll::Status);
     }
     if work.received < work.receive {
-        return Phase::Receiving(Poll::Status);
+        return Stage::Receiving(Poll::Status);
     }
-    Phase::Ended(Ending::Ok)
+    Stage::Ended(Ending::Ok)
 }
 
-fn receive_turn(work: Work) -> Phase
+fn receive_turn(work: Work) -> Stage
     ensures { λ r. ⌜ r ≡ receiveTurn work ⌝ }
 {
     if work.received < work.receive {
-        return Phase::Receiving(Poll::Status);
+        return Stage::Receiving(Poll::Status);
     }
     if work.sent < work.send {
-        return Phase::Sending(Poll::Status);
+        return Stage::Sending(Poll::Status);
     }
-    Phase::Ended(Ending::Ok)
+    Stage::Ended(Ending::Ok)
 }
 
-fn turn(side: Direction, work: Work) -> Phase
+fn turn(side: Direction, work: Work) -> Stage
     ensures { λ r. ⌜ r ≡ turnOf side work ⌝ }
 {
     match side {
@@ -102,46 +103,46 @@ fn one_received(work: Work) -> Work
     w
 }
 
-fn after_space(poll: Poll, value: u32) -> Phase
+fn after_space(poll: Poll, value: u32) -> Stage
     ensures { λ r. ⌜ r ≡ afterSpace poll value ⌝ }
 {
     match poll_answered(Direction::Tx, poll, value) {
-        Polled::Failed => Phase::Ended(Ending::Err(LpspiError::Fifo(Direction::Tx))),
-        Polled::Next(p) => Phase::Space(p),
-        Polled::Ready => Phase::Command,
-        Polled::Unready => Phase::Space(Poll::Status),
+        Polled::Failed => Stage::Ended(Ending::Err(LpspiError::Fifo(Direction::Tx))),
+        Polled::Next(p) => Stage::Space(p),
+        Polled::Ready => Stage::Command,
+        Polled::Unready => Stage::Space(Poll::Status),
     }
 }
 
-fn after_sending(poll: Poll, work: Work, value: u32) -> Phase
+fn after_sending(poll: Poll, work: Work, value: u32) -> Stage
     ensures { λ r. ⌜ r ≡ afterSending poll work value ⌝ }
 {
     match poll_answered(Direction::Tx, poll, value) {
-        Polled::Failed => Phase::Recovery(Direction::Tx),
-        Polled::Next(p) => Phase::Sending(p),
-        Polled::Ready => Phase::Send,
+        Polled::Failed => Stage::Recovery(Direction::Tx),
+        Polled::Next(p) => Stage::Sending(p),
+        Polled::Ready => Stage::Send,
         Polled::Unready => receive_turn(work),
     }
 }
 
-fn after_receiving(poll: Poll, work: Work, value: u32) -> Phase
+fn after_receiving(poll: Poll, work: Work, value: u32) -> Stage
     ensures { λ r. ⌜ r ≡ afterReceiving poll work value ⌝ }
 {
     match poll_answered(Direction::Rx, poll, value) {
-        Polled::Failed => Phase::Recovery(Direction::Rx),
-        Polled::Next(p) => Phase::Receiving(p),
-        Polled::Ready => Phase::Receive,
+        Polled::Failed => Stage::Recovery(Direction::Rx),
+        Polled::Next(p) => Stage::Receiving(p),
+        Polled::Ready => Stage::Receive,
         Polled::Unready => send_turn(work),
     }
 }
 
-fn after_recovery(direction: Direction, reset: Sequence) -> Phase
+fn after_recovery(direction: Direction, reset: Sequence) -> Stage
     ensures { λ r. ⌜ r ≡ afterRecovery direction reset ⌝ }
 {
     if is_recovered(reset) {
-        return Phase::Ended(Ending::Err(LpspiError::Fifo(direction)));
+        return Stage::Ended(Ending::Err(LpspiError::Fifo(direction)));
     }
-    Phase::Recovery(direction)
+    Stage::Recovery(direction)
 }
 
 impl Transfer {
@@ -150,7 +151,7 @@ impl Transfer {
         ensures { λ r. ⌜ r ≡ startTransfer driver (transaction .0) send receive ⌝ }
     {
         Transfer {
-            phase: Phase::Space(Poll::Status),
+            phase: Stage::Space(Poll::Status),
             work: Work {
                 command: transaction.as_raw(),
                 send,
@@ -167,7 +168,7 @@ impl Transfer {
         ensures { λ r. ⌜ r ≡ endedTransfer driver ending ⌝ }
     {
         Transfer {
-            phase: Phase::Ended(ending),
+            phase: Stage::Ended(ending),
             work: Work {
                 command: 0,
                 send: 0,
@@ -197,17 +198,17 @@ impl Transfer {
         let phase = self.phase;
         let work = self.work;
         match phase {
-            Phase::Space(p) => poll_access(p),
-            Phase::Command => Access::Write(Register::TCR, work.command),
-            Phase::Sending(p) => poll_access(p),
-            Phase::Send => Access::Send(work.sent),
-            Phase::Receiving(p) => poll_access(p),
-            Phase::Receive => Access::Receive(work.received),
-            Phase::Recovery(_) => {
+            Stage::Space(p) => poll_access(p),
+            Stage::Command => Access::Write(Register::TCR, work.command),
+            Stage::Sending(p) => poll_access(p),
+            Stage::Send => Access::Send(work.sent),
+            Stage::Receiving(p) => poll_access(p),
+            Stage::Receive => Access::Receive(work.received),
+            Stage::Recovery(_) => {
                 let reset = self.reset;
-                reset.access(recovery_move(reset.place()))
+                recovery_access(reset)
             }
-            Phase::Ended(e) => Access::Done(e),
+            Stage::Ended(e) => Access::Done(e),
         }
     }
 
@@ -219,28 +220,28 @@ impl Transfer {
         let work = self.work;
         let reset = self.reset;
         match phase {
-            Phase::Space(p) => standing(after_space(p, value), work, reset),
-            Phase::Command => standing(send_turn(work), work, reset),
-            Phase::Sending(p) => standing(after_sending(p, work, value), work, reset),
-            Phase::Send => {
+            Stage::Space(p) => standing(after_space(p, value), work, reset),
+            Stage::Command => standing(send_turn(work), work, reset),
+            Stage::Sending(p) => standing(after_sending(p, work, value), work, reset),
+            Stage::Send => {
                 let w = one_sent(work);
                 standing(send_turn(w), w, reset)
             }
-            Phase::Receiving(p) => standing(after_receiving(p, work, value), work, reset),
-            Phase::Receive => {
+            Stage::Receiving(p) => standing(after_receiving(p, work, value), work, reset),
+            Stage::Receive => {
                 let w = one_received(work);
                 standing(receive_turn(w), w, reset)
             }
-            Phase::Recovery(d) => {
-                let r = reset.after(recovery_move(reset.place()), value);
+            Stage::Recovery(d) => {
+                let r = recovery_after(reset, value);
                 standing(after_recovery(d, r), work, r)
             }
-            Phase::Ended(e) => standing(Phase::Ended(e), work, reset),
+            Stage::Ended(e) => standing(Stage::Ended(e), work, reset),
         }
     }
 }
 
-fn standing(phase: Phase, work: Work, reset: Sequence) -> Transfer
+fn standing(phase: Stage, work: Work, reset: Sequence) -> Transfer
     ensures { λ r. ⌜ r ≡ at phase work reset ⌝ }
 {
     Transfer { phase, work, reset }

@@ -19,6 +19,7 @@ use Rattle.manual.specs.declared.Register.{Register}
 use Rattle.manual.specs.declared.Register.the-variants.{PARAM, CR, SR, IER, DER, CFGR0, CFGR1, DMR0, DMR1, CCR, FCR, FSR, TCR, TDR, RSR, RDR}
 use Rattle.manual.specs.declared.Field.{Field}
 use Rattle.manual.specs.declared.Field.the-variants.{Param, Cr, Sr, Cfgr1, Ccr, Fcr, Fsr, Tcr, Rsr}
+use Rattle.manual.specs.Bits.{getBits}
 use Rattle.manual.specs.Manual.{bitsOf, registerOf, readField, setField, Setting, setAll}
 use Rattle.manual.proofs.BitsLaws.{get-set, get-set-below, get-set-above}
 
@@ -199,3 +200,20 @@ all-clear g r (s ∷ ss) e h = pair (apart (s .0) g || sameBits (s .0) g) (clear
 
 pub read-register : (g : Field) (r : Register) (ss : List Setting) (w : ℕ) → registerOf g ≡ r → AllOf r ss → readField g (setAll ss w) ≡ found g ss w
 read-register g r ss w e h = read-all g ss w (all-clear g r ss e h)
+
+-- BITS OUTSIDE: m bits from q up that no setting touches, whether the table has a field there or not
+abbrev pub outside : ℕ → ℕ → List Setting → Bool
+outside q m [] = true
+outside q m (s ∷ ss) =
+    (leb (q + m) (bitsOf (s .0) .position) || leb (bitsOf (s .0) .position + bitsOf (s .0) .width) q) && outside q m ss
+
+pub kept-outside : (q m : ℕ) (ss : List Setting) (w : ℕ) → T (outside q m ss) → getBits q m (setAll ss w) ≡ getBits q m w
+kept-outside q m [] w h = refl
+kept-outside q m (s ∷ ss) w h =
+    let p = bitsOf (s .0) .position in
+    let n = bitsOf (s .0) .width in
+    let b = both (leb (q + m) p || leb (p + n) q) (outside q m ss) h in
+    either (leb (q + m) p) (leb (p + n) q) (b .0)
+    (λ l. get-set-below p n (s .1) (setAll ss w) q m (leb→le _ _ l))
+    (λ l. get-set-above p n (s .1) (setAll ss w) q m (leb→le _ _ l))
+    ∙ kept-outside q m ss w (b .1)

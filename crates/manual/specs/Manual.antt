@@ -1,4 +1,4 @@
--- The table of the i.MX RT1060 Reference Manual, chapter LPSPI, as far as document 01 names it: each register's byte offset, and each
+-- The table of the i.MX RT1060 Reference Manual, chapter LPSPI, as far as document 01 names it (SR: the flags of the Rust's `Status`; RSR's SOF beside): each register's byte offset, and each
 -- field's lowest bit and width. Every definition that speaks of a field cites this table.
 -- Assumes nothing.
 use Prim.Native.Nat.{ℕ}

@@ -1,6 +1,6 @@
 -- What a transfer costs: a run that ended Ok has made 4 accesses, 4 for each word either way, and 3 for each poll that was not ready.
 -- Assumes nothing.
-use Prim.Native.Nat.{ℕ, zero, suc, _+_, _*_, _≤_}
+use Prim.Native.Nat.{ℕ, zero, suc, _+_, _*_}
 use mathlib.Core.Bool.{Bool, true, false, cond}
 use mathlib.Core.List.{List, [], _∷_, _++_}
 use mathlib.Core.Path.{_≡_, refl, ap, subst}
@@ -11,21 +11,21 @@ use lib.ListN.{length, getD, length-append}
 use Rattle.words.specs.declared.transaction.Direction.{Direction}
 use Rattle.words.specs.declared.transaction.Direction.the-variants.{Tx, Rx}
 use Rattle.words.specs.declared.transaction.LpspiError.the-variants.{Fifo}
-use Rattle.machine.specs.declared.access.Access.{Access}
-use Rattle.machine.specs.declared.access.Access.the-variants.{Read, Write, Done, Send as SendWord, Receive as ReceiveWord}
-use Rattle.machine.specs.declared.access.Ending.{Ending}
-use Rattle.machine.specs.declared.access.Ending.the-variants.{Ok, Err, Stopped, Limits, ZeroClock, FifoExponent}
-use Rattle.machine.specs.declared.driver.Lpspi.{Lpspi}
+use Rattle.sequences.specs.declared.access.Access.{Access}
+use Rattle.sequences.specs.declared.access.Access.the-variants.{Read, Write, Done, Send as SendWord, Receive as ReceiveWord}
+use Rattle.sequences.specs.declared.access.Ending.{Ending}
+use Rattle.sequences.specs.declared.access.Ending.the-variants.{Ok, Err, Stopped, Limits, ZeroClock, FifoExponent}
+use Rattle.sequences.specs.declared.driver.Lpspi.{Lpspi}
 use Rattle.machine.specs.declared.poll.Poll.{Poll}
 use Rattle.machine.specs.declared.poll.Poll.the-variants.{Status, Sizes, Counts}
 use Rattle.machine.specs.declared.poll.Polled.the-variants.{Failed, Next, Ready, Unready}
-use Rattle.machine.specs.declared.sequence.Sequence.{Sequence}
-use Rattle.machine.specs.declared.transfer.Phase.{Phase}
-use Rattle.machine.specs.declared.transfer.Phase.the-variants.{Space, Command, Sending, Send, Receiving, Receive, Recovery, Ended}
+use Rattle.sequences.specs.declared.sequence.Sequence.{Sequence}
+use Rattle.machine.specs.declared.transfer.Stage.{Stage}
+use Rattle.machine.specs.declared.transfer.Stage.the-variants.{Space, Command, Sending, Send, Receiving, Receive, Recovery, Ended}
 use Rattle.machine.specs.declared.transfer.Work.{Work}
 use Rattle.machine.specs.declared.transfer.Transfer.{Transfer}
 use Rattle.machine.specs.Poll.{failed, ready}
-use Rattle.machine.specs.Recovery.{recoveryAfter, recovered}
+use Rattle.sequences.specs.Recovery.{recoveryAfter, recovered}
 use Rattle.machine.specs.Transfer.{at, startTransfer, sendTurn, receiveTurn, oneSent, oneReceived, spaceBy, sendingBy, receivingBy, dueAccess, resumed}
 use Rattle.runs.specs.Run.{Logged, State, start, halted, answerOf, endingOf, times, afterAccess, step, run}
 use Rattle.runs.specs.Unready.{unreadyIn, unready, unreadyPolls}
@@ -50,7 +50,7 @@ Final ZeroClock w made n = Unit {0}
 Final FifoExponent w made n = Unit {0}
 
 -- `made` accesses and n unready polls brought the transfer where it stands; nothing is said once an error was met
-abbrev Bill : Phase → Work → ℕ → ℕ → Type 0
+abbrev Bill : Stage → Work → ℕ → ℕ → Type 0
 Bill (Space p) w made n = made ≡ reads p + 3 * n
 Bill Command w made n = made ≡ 3 + 3 * n
 Bill (Sending p) w made n = made ≡ cost w + reads p + 3 * n
@@ -110,7 +110,7 @@ recovery-bill true d w made n = tt
 recovery-bill false d w made n = tt
 
 -- one access
-bill-on : (p : Phase) (w : Work) (r : Sequence) (v made n used answers : ℕ) → halted (dueAccess (at p w r)) used answers ≡ false → Standing p w → Bill p w made n
+bill-on : (p : Stage) (w : Work) (r : Sequence) (v made n used answers : ℕ) → halted (dueAccess (at p w r)) used answers ≡ false → Standing p w → Bill p w made n
     → Billed (resumed (at p w r) (answerOf (dueAccess (at p w r)) v)) (made + 1) (n + unreadyIn p v)
 unfolding dueAccess resumed
 bill-on (Space Status) w r v made n used answers l t h = space-first (failed Tx v) w made n (omega arith)
@@ -171,6 +171,6 @@ module _ (script : List ℕ) (words : List ℕ → ℕ → ℕ) (d : Lpspi) (com
       let u : State Transfer = run dueAccess resumed words script budget s in
       let due = ok-done (dueAccess (u .machine)) e in
       let all = in-order send receive u (placed-run send receive words script budget s (start-placed d command send receive)) .all due in
-      let count = subst (λ (p : Phase). Bill p (u .machine .work) (length (u .log)) (0 + unreadyPolls script words budget s)) (done-phase (u .machine .phase) (u .machine .work) (u .machine .reset) Ok due)
+      let count = subst (λ (p : Stage). Bill p (u .machine .work) (length (u .log)) (0 + unreadyPolls script words budget s)) (done-phase (u .machine .phase) (u .machine .work) (u .machine .reset) Ok due)
       (bill-run script words send receive budget s 0 (start-placed d command send receive) refl) in
       omega (arith, all, count)

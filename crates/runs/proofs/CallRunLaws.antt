@@ -5,13 +5,13 @@ use mathlib.Core.Bool.{true, false}
 use mathlib.Core.List.{List}
 use mathlib.Core.Path.{_≡_, sym, ap, ap₂, _∙_}
 use lib.ListN.{length}
-use Rattle.machine.specs.declared.access.Ending.{Ending}
-use Rattle.machine.specs.declared.access.Ending.the-variants.{Limits}
-use Rattle.machine.specs.declared.call.Call.{Call}
-use Rattle.machine.specs.declared.driver.Lpspi.{Lpspi}
-use Rattle.machine.specs.declared.sequence.Sequence.{Sequence}
-use Rattle.machine.specs.Sequence.{sequenceStart}
-use Rattle.machine.specs.Call.{callStart, callAccess, callAfter}
+use Rattle.sequences.specs.declared.access.Ending.{Ending}
+use Rattle.sequences.specs.declared.access.Ending.the-variants.{Limits}
+use Rattle.sequences.specs.declared.call.Call.{Call}
+use Rattle.sequences.specs.declared.driver.Lpspi.{Lpspi}
+use Rattle.sequences.specs.declared.sequence.Sequence.{Sequence}
+use Rattle.sequences.specs.Sequence.{sequenceStart}
+use Rattle.sequences.specs.Call.{callStart, callAccess, callAfter}
 use Rattle.runs.specs.declared.call.Called.{Called}
 use Rattle.runs.specs.Run.{State, limits, endingOf, halted}
 use Rattle.runs.specs.Call.{callStates, callLeft, calledBy, callRun}

@@ -4,22 +4,22 @@ use Prim.Native.Nat.{ℕ, _≤_}
 use mathlib.Core.Bool.{Bool, true, false, cond}
 use mathlib.Core.List.{List}
 use native.Mathlib.Omega.{arith}
-use Rattle.machine.specs.declared.call.Call.{Call}
-use Rattle.machine.specs.declared.driver.Lpspi.{Lpspi}
+use Rattle.sequences.specs.declared.call.Call.{Call}
+use Rattle.sequences.specs.declared.driver.Lpspi.{Lpspi}
 use Rattle.machine.specs.declared.flush.Flush.the-variants.{Status}
-use Rattle.machine.specs.Call.{callStart, callAccess, callAfter}
+use Rattle.sequences.specs.Call.{callStart, callAccess, callAfter}
 use Rattle.machine.specs.Flush.{flushAccess, flushed}
-use Rattle.machine.specs.Sequence.{sequenceStart}
-use Rattle.runs.specs.Run.{limits, refused, ran, start, noWords}
+use Rattle.sequences.specs.Sequence.{sequenceStart}
+use Rattle.runs.specs.Run.{limits, overLimits, ran, start, noWords}
 use Rattle.runs.specs.Flush.{flushStates, flushRun}
 use Rattle.runs.specs.Call.{callLeft, callStates, calledBy, callRun}
-use Rattle.machine.specs.declared.access.Ending.the-variants.{Limits}
+use Rattle.sequences.specs.declared.access.Ending.the-variants.{Limits}
 use Rattle.runs.proofs.RunLaws.{run-log}
 
 pub flush-within : (d : Lpspi) (budget : ℕ) (script log : List ℕ) → flushRun d budget script log .result .accesses ≤ budget
 flush-within d budget script log = by-limits (limits budget log)
   where
-    by-limits : (b : Bool) → cond b (refused d log) (ran flushAccess d log (flushStates script budget)) .result .accesses ≤ budget
+    by-limits : (b : Bool) → cond b (overLimits d log) (ran flushAccess d log (flushStates script budget)) .result .accesses ≤ budget
     by-limits true = omega arith
     by-limits false = omega (arith, run-log flushAccess flushed noWords script budget (start Status))
 

@@ -16,19 +16,19 @@ use Rattle.words.proofs.LaidLaws.{laid-last}
 use Rattle.manual.specs.declared.Register.{Register}
 use Rattle.manual.specs.declared.Register.the-variants.{PARAM, CR, SR, IER, DER, CFGR0, CFGR1, DMR0, DMR1, CCR, FCR, FSR, TCR, TDR, RSR, RDR}
 use Rattle.manual.specs.Manual.{offsetOf}
-use Rattle.machine.specs.declared.access.Access.{Access}
-use Rattle.machine.specs.declared.access.Access.the-variants.{Read, Write, Send, Receive, Done}
-use Rattle.machine.specs.declared.access.Ending.{Ending}
-use Rattle.machine.specs.declared.access.Ending.the-variants.{Limits}
-use Rattle.machine.specs.declared.driver.Lpspi.{Lpspi}
+use Rattle.sequences.specs.declared.access.Access.{Access}
+use Rattle.sequences.specs.declared.access.Access.the-variants.{Read, Write, Send, Receive, Done}
+use Rattle.sequences.specs.declared.access.Ending.{Ending}
+use Rattle.sequences.specs.declared.access.Ending.the-variants.{Limits}
+use Rattle.sequences.specs.declared.driver.Lpspi.{Lpspi}
 use Rattle.machine.specs.declared.transfer.Transfer.{Transfer}
 use Rattle.machine.specs.Transfer.{startTransfer, counted, dueAccess, resumed}
 use Rattle.runs.specs.declared.drive.Driven.{Driven}
 use Rattle.runs.specs.declared.drive.Frame.{Frame}
 use Rattle.runs.specs.declared.drive.Spot.{Spot}
 use Rattle.runs.specs.declared.turns.Count.{Count}
-use Rattle.runs.specs.Run.{Logged, codeOf, valueOf, usesOf, answerOf, receivedAfter, halted, endingOf, times, State, start, step, afterAccess, run, limits, logOver, put}
-use Rattle.runs.specs.Drive.{wordIn, gotAfter, wordsAfter, stored, sentFrom, states, Stands, DrivenLeft, drivenLeft, drivenBy, wordsRun}
+use Rattle.runs.specs.Run.{Logged, codeOf, valueOf, usesOf, answerOf, receivedAfter, halted, endingOf, times, State, start, step, afterAccess, limits, logOver, put}
+use Rattle.runs.specs.Drive.{wordIn, gotAfter, wordsAfter, stored, sentFrom, wordsStates, Stands, DrivenLeft, drivenLeft, drivenBy, wordsRun}
 use Rattle.runs.proofs.RunLaws.{run-add, run-halted, run-last, log-put}
 
 -- STORED WORDS
@@ -114,14 +114,14 @@ module _ (f : Frame) (script send old olds : List ℕ) (t : Transfer) where
 
   module _ (u : Transfer) (s : Spot) (log words : List ℕ) (h : Stands f script send old olds t u s log words) where
     abbrev here : State Transfer
-    here = states f script send olds t (s .made)
+    here = wordsStates f script send olds t (s .made)
 
     -- ONE ACCESS MORE
     module _ (a : Access) (v : ℕ) (due : dueAccess u ≡ a) (goes : halted a (s .used) (length script) ≡ false) (ev : v ≡ getD script (s .used) 0) where
       abbrev there : State Transfer
       there = record { machine = resumed u (answerOf a v); used = s .used + usesOf a; log = here .log ++ (entry a (here .received) v ∷ []); received = receivedAfter a v (here .received) }
 
-      next-state : states f script send olds t (s .made + 1) ≡ there
+      next-state : wordsStates f script send olds t (s .made + 1) ≡ there
       next-state =
           run-last dueAccess resumed (sentFrom f send olds) script (s .made) (start t)
           ∙ ap₂ (λ (g : Transfer) (m : ℕ). step dueAccess resumed (sentFrom f send olds) script (record { machine = g; used = m; log = here .log; received = here .received })) (h .machine) (h .used)
@@ -142,7 +142,7 @@ module _ (f : Frame) (script send old olds : List ℕ) (t : Transfer) where
           → log′ ≡ put log (s .made) (codeOf a) (valueOf (wordIn f send words (s .received)) a v) → words′ ≡ wordsAfter a words (s .received) v
           → Stands f script send old olds t u′ s′ log′ words′
       stands-next u′ s′ log′ words′ l eu em es er en el ew =
-          let e : states f script send olds t (s′ .made) ≡ there = ap (states f script send olds t) em ∙ next-state in
+          let e : wordsStates f script send olds t (s′ .made) ≡ there = ap (wordsStates f script send olds t) em ∙ next-state in
           record {
             machine = ap (λ (x : State Transfer). x .machine) e ∙ sym eu;
             used = ap (λ (x : State Transfer). x .used) e ∙ sym es;
@@ -155,8 +155,8 @@ module _ (f : Frame) (script send old olds : List ℕ) (t : Transfer) where
           }
 
     -- THE END: no further access
-    left-here : (budget : ℕ) (e : Ending) → states f script send olds t budget ≡ here → e ≡ endingOf (dueAccess u)
-        → drivenLeft (record { ending = e; spot = s }) log words ≡ drivenBy old olds (states f script send olds t budget)
+    left-here : (budget : ℕ) (e : Ending) → wordsStates f script send olds t budget ≡ here → e ≡ endingOf (dueAccess u)
+        → drivenLeft (record { ending = e; spot = s }) log words ≡ drivenBy old olds (wordsStates f script send olds t budget)
     unfolding drivenBy
     left-here budget e same ee =
         ap₂ (λ (l w : List ℕ). drivenLeft (record { ending = e; spot = s }) l w) (h .held) (h .placed)
@@ -168,16 +168,16 @@ module _ (f : Frame) (script send old olds : List ℕ) (t : Transfer) where
         spot-here = ap₂ (λ (m n : ℕ). record { made = m; used = n; received = s .received }) (sym (h .pairs)) (sym (h .used)) ∙ ap (λ (g : ℕ). record { made = length (here .log); used = here .used; received = g }) (sym (h .got))
 
     pub stands-full : (budget : ℕ) (e : Ending) → s .made ≤ budget → budget ≤ s .made → e ≡ endingOf (dueAccess u)
-        → drivenLeft (record { ending = e; spot = s }) log words ≡ drivenBy old olds (states f script send olds t budget)
-    stands-full budget e l m ee = left-here budget e (ap (states f script send olds t) (let x : budget ≡ s .made = omega arith in x)) ee
+        → drivenLeft (record { ending = e; spot = s }) log words ≡ drivenBy old olds (wordsStates f script send olds t budget)
+    stands-full budget e l m ee = left-here budget e (ap (wordsStates f script send olds t) (let x : budget ≡ s .made = omega arith in x)) ee
 
     pub stands-halted : (budget : ℕ) (e : Ending) → s .made ≤ budget → halted (dueAccess u) (s .used) (length script) ≡ true → e ≡ endingOf (dueAccess u)
-        → drivenLeft (record { ending = e; spot = s }) log words ≡ drivenBy old olds (states f script send olds t budget)
+        → drivenLeft (record { ending = e; spot = s }) log words ≡ drivenBy old olds (wordsStates f script send olds t budget)
     stands-halted budget e l stops ee = left-here budget e same ee
       where
-        same : states f script send olds t budget ≡ here
+        same : wordsStates f script send olds t budget ≡ here
         same =
-            ap (states f script send olds t) (let x : budget ≡ s .made + (budget - s .made) = omega arith in x)
+            ap (wordsStates f script send olds t) (let x : budget ≡ s .made + (budget - s .made) = omega arith in x)
             ∙ run-add dueAccess resumed (sentFrom f send olds) script (s .made) (budget - s .made) (start t)
             ∙ run-halted dueAccess resumed (sentFrom f send olds) script (budget - s .made) here (ap₂ (λ (g : Transfer) (m : ℕ). halted (dueAccess g) m (length script)) (h .machine) (h .used) ∙ stops)
 
@@ -193,7 +193,7 @@ module _ (d : Lpspi) (command : ℕ) (n : Count) (f : Frame) (budget : ℕ) (scr
   unfolding wordsRun
   words-limits e = rw e
 
-  pub words-run : limits budget log ≡ false → drivenBy log olds (states f script send olds (startTransfer d command (n .send) (n .receive)) budget) ≡ wordsRun d command n f budget script send log olds
+  pub words-run : limits budget log ≡ false → drivenBy log olds (wordsStates f script send olds (startTransfer d command (n .send) (n .receive)) budget) ≡ wordsRun d command n f budget script send log olds
   unfolding wordsRun
   words-run e = rw e
 
@@ -212,7 +212,7 @@ module _ (d : Lpspi) (command : ℕ) (n : Count) (f : Frame) (budget : ℕ) (scr
     (e : drivenLeft x log′ words′ ≡ wordsRun d command n f budget script send log olds) where
   pub words-stored : x .spot .received ≤ length words′
   unfolding wordsRun
-  words-stored = stored-fits (limits budget log) x log′ words′ log olds (states f script send olds (startTransfer d command (n .send) (n .receive)) budget) e
+  words-stored = stored-fits (limits budget log) x log′ words′ log olds (wordsStates f script send olds (startTransfer d command (n .send) (n .receive)) budget) e
 
   pub words-length : x .spot .received ≡ length (take (x .spot .received) words′)
   words-length = omega (arith, words-stored, length-take (x .spot .received) words′)

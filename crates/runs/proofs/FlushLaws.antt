@@ -9,10 +9,10 @@ use lib.ListN.{length, getD}
 use lib.Dec.{leb}
 use borrow.Author.Tests.{lt-leb, leb-true, leb-false}
 use Rattle.manual.specs.declared.Register.the-variants.{SR, PARAM, FSR}
-use Rattle.machine.specs.declared.access.Access.the-variants.{Read}
-use Rattle.machine.specs.declared.access.Ending.{Ending}
-use Rattle.machine.specs.declared.access.Ending.the-variants.{Stopped}
-use Rattle.machine.specs.declared.driver.Lpspi.{Lpspi}
+use Rattle.sequences.specs.declared.access.Access.the-variants.{Read}
+use Rattle.sequences.specs.declared.access.Ending.{Ending}
+use Rattle.sequences.specs.declared.access.Ending.the-variants.{Stopped}
+use Rattle.sequences.specs.declared.driver.Lpspi.{Lpspi}
 use Rattle.machine.specs.declared.flush.Flush.{Flush}
 use Rattle.machine.specs.declared.flush.Flush.the-variants.{Status, Sizes, Counts, Ended}
 use Rattle.machine.specs.Flush.{flushAccess, flushed}

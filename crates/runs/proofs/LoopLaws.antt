@@ -6,9 +6,9 @@ use mathlib.Core.List.{List, [], _∷_, _++_}
 use mathlib.Core.Path.{_≡_, refl, sym, ap, ap₂, _∙_}
 use native.Mathlib.Omega.{arith}
 use lib.ListN.{length, getD, length-append}
-use Rattle.machine.specs.declared.access.Access.{Access}
+use Rattle.sequences.specs.declared.access.Access.{Access}
 use Rattle.runs.specs.Run.{Logged, codeOf, valueOf, usesOf, answerOf, receivedAfter, halted, times, State, start, step, afterAccess, noWords, logOver, put}
-use Rattle.runs.specs.Loop.{At, states as statesFrom}
+use Rattle.runs.specs.Loop.{At, statesFrom}
 use Rattle.runs.proofs.RunLaws.{run-add, run-halted, run-last, log-put}
 
 module _ {M : Type 0} (next : M → Access) (resume : M → ℕ → M) (script old : List ℕ) (first : M) where

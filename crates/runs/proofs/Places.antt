@@ -11,22 +11,20 @@ use borrow.Author.Tests.{ltb-true, ltb-false}
 use Rattle.words.specs.declared.transaction.Direction.{Direction}
 use Rattle.words.specs.declared.transaction.Direction.the-variants.{Tx, Rx}
 use Rattle.words.specs.declared.transaction.LpspiError.the-variants.{Fifo}
-use Rattle.machine.specs.declared.access.Access.{Access}
-use Rattle.machine.specs.declared.access.Access.the-variants.{Read, Write, Done, Send as SendWord, Receive as ReceiveWord}
-use Rattle.machine.specs.declared.access.Ending.{Ending}
-use Rattle.machine.specs.declared.access.Ending.the-variants.{Ok, Err, Stopped, Limits, ZeroClock, FifoExponent}
-use Rattle.machine.specs.declared.driver.Lpspi.{Lpspi}
-use Rattle.machine.specs.declared.poll.Poll.{Poll}
-use Rattle.machine.specs.declared.poll.Poll.the-variants.{Status, Sizes, Counts}
+use Rattle.sequences.specs.declared.access.Access.the-variants.{Done, Send as SendWord, Receive as ReceiveWord}
+use Rattle.sequences.specs.declared.access.Ending.{Ending}
+use Rattle.sequences.specs.declared.access.Ending.the-variants.{Ok, Err, Stopped, Limits, ZeroClock, FifoExponent}
+use Rattle.sequences.specs.declared.driver.Lpspi.{Lpspi}
+use Rattle.machine.specs.declared.poll.Poll.the-variants.{Status}
 use Rattle.machine.specs.declared.poll.Polled.{Polled}
 use Rattle.machine.specs.declared.poll.Polled.the-variants.{Failed, Next, Ready, Unready}
-use Rattle.machine.specs.declared.sequence.Sequence.{Sequence}
-use Rattle.machine.specs.declared.transfer.Phase.{Phase}
-use Rattle.machine.specs.declared.transfer.Phase.the-variants.{Space, Command, Sending, Send, Receiving, Receive, Recovery, Ended}
+use Rattle.sequences.specs.declared.sequence.Sequence.{Sequence}
+use Rattle.machine.specs.declared.transfer.Stage.{Stage}
+use Rattle.machine.specs.declared.transfer.Stage.the-variants.{Space, Command, Sending, Send, Receiving, Receive, Recovery, Ended}
 use Rattle.machine.specs.declared.transfer.Work.{Work}
 use Rattle.machine.specs.declared.transfer.Transfer.{Transfer}
 use Rattle.machine.specs.Poll.{pollAccess, polled}
-use Rattle.machine.specs.Recovery.{recoveryAccess, recoveryAfter, recovered}
+use Rattle.sequences.specs.Recovery.{recoveryAccess, recoveryAfter, recovered}
 use Rattle.machine.specs.Transfer.{at, startTransfer, sendTurn, receiveTurn, counted, oneSent, oneReceived, spaceBy, sendingBy, receivingBy, dueAccess, resumed}
 use Rattle.runs.specs.Run.{State, start, halted, answerOf, receivedAfter, times, afterAccess, step, run}
 use Rattle.runs.proofs.PlainLaws.{kind, plain-keeps, poll-plain, recovery-plain}
@@ -40,7 +38,7 @@ Final Limits w = Unit {0}
 Final ZeroClock w = Unit {0}
 Final FifoExponent w = Unit {0}
 
-abbrev pub Standing : Phase → Work → Type 0
+abbrev pub Standing : Stage → Work → Type 0
 Standing (Space p) w = (w .sent ≡ 0) × (w .received ≡ 0)
 Standing Command w = (w .sent ≡ 0) × (w .received ≡ 0)
 Standing (Sending p) w = w .sent < w .send
@@ -106,7 +104,7 @@ counted-up n limit h = by-test (ltb n limit) refl
 
 module _ (send receive : ℕ) where
   -- the same words done: another phase
-  on : (p q : Phase) (w : Work) (r u : Sequence) (n : ℕ) → Placed send receive (at p w r) n → (w .sent ≤ w .send → w .received ≤ w .receive → Standing p w → Standing q w) → Placed send receive (at q w u) n
+  on : (p q : Stage) (w : Work) (r u : Sequence) (n : ℕ) → Placed send receive (at p w r) n → (w .sent ≤ w .send → w .received ≤ w .receive → Standing p w → Standing q w) → Placed send receive (at q w u) n
   on p q w r u n h k =
       record {
         toSend = h .toSend;
@@ -117,7 +115,7 @@ module _ (send receive : ℕ) where
         turn = k (let x : w .sent ≤ w .send = omega arith in x) (let x : w .received ≤ w .receive = omega arith in x) (h .turn);
       }
 
-  placed-on : (p : Phase) (w : Work) (r : Sequence) (a v : ℕ) (rs : List ℕ) → Placed send receive (at p w r) (length rs)
+  placed-on : (p : Stage) (w : Work) (r : Sequence) (a v : ℕ) (rs : List ℕ) → Placed send receive (at p w r) (length rs)
       → Placed send receive (resumed (at p w r) a) (length (receivedAfter (dueAccess (at p w r)) v rs))
   unfolding dueAccess resumed
   placed-on (Space p) w r a v rs h = rw (plain-keeps (pollAccess p) (poll-plain p) v rs) (on (Space p) _ w r r (length rs) h (λ s t u. space-turn (polled Tx p a) w u))
@@ -175,7 +173,7 @@ pub record InOrder (send receive : ℕ) (s : State Transfer) : Type 0 where
   pub receives : (i : ℕ) → dueAccess (s .machine) ≡ ReceiveWord i → (i ≡ s .machine .work .received) × (i < receive)
   pub all : dueAccess (s .machine) ≡ Done Ok → (s .machine .work .sent ≡ send) × (s .machine .work .received ≡ receive)
 
-due-send : (p : Phase) (w : Work) (r : Sequence) (i : ℕ) → Standing p w → dueAccess (at p w r) ≡ SendWord i → (i ≡ w .sent) × (i < w .send)
+due-send : (p : Stage) (w : Work) (r : Sequence) (i : ℕ) → Standing p w → dueAccess (at p w r) ≡ SendWord i → (i ≡ w .sent) × (i < w .send)
 unfolding dueAccess
 due-send (Space p) w r i h e = absurd (omega (arith, poll-plain p, ap kind e))
 due-send Command w r i h e = absurd (omega (arith, ap kind e))
@@ -186,7 +184,7 @@ due-send Receive w r i h e = absurd (omega (arith, ap kind e))
 due-send (Recovery d) w r i h e = absurd (omega (arith, recovery-plain r, ap kind e))
 due-send (Ended x) w r i h e = absurd (omega (arith, ap kind e))
 
-due-receive : (p : Phase) (w : Work) (r : Sequence) (i : ℕ) → Standing p w → dueAccess (at p w r) ≡ ReceiveWord i → (i ≡ w .received) × (i < w .receive)
+due-receive : (p : Stage) (w : Work) (r : Sequence) (i : ℕ) → Standing p w → dueAccess (at p w r) ≡ ReceiveWord i → (i ≡ w .received) × (i < w .receive)
 unfolding dueAccess
 due-receive (Space p) w r i h e = absurd (omega (arith, poll-plain p, ap kind e))
 due-receive Command w r i h e = absurd (omega (arith, ap kind e))
@@ -198,7 +196,7 @@ due-receive (Recovery d) w r i h e = absurd (omega (arith, recovery-plain r, ap 
 due-receive (Ended x) w r i h e = absurd (omega (arith, ap kind e))
 
 -- a transfer answers where it has ended
-pub done-phase : (p : Phase) (w : Work) (r : Sequence) (x : Ending) → dueAccess (at p w r) ≡ Done x → p ≡ Ended x
+pub done-phase : (p : Stage) (w : Work) (r : Sequence) (x : Ending) → dueAccess (at p w r) ≡ Done x → p ≡ Ended x
 unfolding dueAccess
 done-phase (Space p) w r x e = absurd (omega (arith, poll-plain p, ap kind e))
 done-phase Command w r x e = absurd (omega (arith, ap kind e))
@@ -222,7 +220,7 @@ in-order send receive s h =
       held = h .holds;
       sends = λ (i : ℕ) (e : dueAccess (s .machine) ≡ SendWord i). omega (arith, due-send p w r i (h .turn) e);
       receives = λ (i : ℕ) (e : dueAccess (s .machine) ≡ ReceiveWord i). omega (arith, due-receive p w r i (h .turn) e);
-      all = λ (e : dueAccess (s .machine) ≡ Done Ok). omega (arith, subst (λ (q : Phase). Standing q w) (done-phase p w r Ok e) (h .turn));
+      all = λ (e : dueAccess (s .machine) ≡ Done Ok). omega (arith, subst (λ (q : Stage). Standing q w) (done-phase p w r Ok e) (h .turn));
     }
 
 pub start-placed : (d : Lpspi) (command send receive : ℕ) → Placed send receive (startTransfer d command send receive) 0

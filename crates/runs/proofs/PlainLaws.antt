@@ -6,16 +6,16 @@ use mathlib.Core.List.{List, [], _∷_}
 use mathlib.Core.Path.{_≡_, refl}
 use native.Mathlib.Omega.{arith}
 use lib.ListN.{getD}
-use Rattle.machine.specs.declared.access.Access.{Access}
-use Rattle.machine.specs.declared.access.Access.the-variants.{Read, Write, Send, Receive, Done}
+use Rattle.sequences.specs.declared.access.Access.{Access}
+use Rattle.sequences.specs.declared.access.Access.the-variants.{Read, Write, Send, Receive, Done}
 use Rattle.machine.specs.declared.poll.Poll.{Poll}
 use Rattle.machine.specs.declared.poll.Poll.the-variants.{Status, Sizes, Counts}
-use Rattle.machine.specs.declared.sequence.Move.{Move}
-use Rattle.machine.specs.declared.sequence.Move.the-variants.{Keep, KeepClock, Look, Wait, WaitClock, Size, Arrived, Modify, Set, Write as WriteMove, Put, End}
-use Rattle.machine.specs.declared.sequence.Sequence.{Sequence}
+use Rattle.sequences.specs.declared.sequence.Move.{Move}
+use Rattle.sequences.specs.declared.sequence.Move.the-variants.{Keep, KeepClock, Look, Wait, WaitClock, Size, Arrived, Modify, Set, Write as WriteMove, Put, End}
+use Rattle.sequences.specs.declared.sequence.Sequence.{Sequence}
 use Rattle.machine.specs.Poll.{pollAccess}
-use Rattle.machine.specs.Sequence.{moveAccess}
-use Rattle.machine.specs.Recovery.{recovery, recoveryMove, recoveryAccess}
+use Rattle.sequences.specs.Sequence.{moveAccess}
+use Rattle.sequences.specs.Recovery.{recovery, recoveryMove, recoveryAccess}
 use Rattle.runs.specs.Run.{receivedAfter}
 
 -- an access by number: 0 and 1 are plain reads and writes

@@ -10,14 +10,14 @@ use lib.Dec.{leb}
 use lib.ListN.{length, getD}
 use borrow.Author.Tests.{lt-leb, leb-false}
 use Rattle.manual.specs.declared.Register.{Register}
-use Rattle.machine.specs.declared.access.Access.{Access}
-use Rattle.machine.specs.declared.access.Access.the-variants.{Read, Write, Send, Receive, Done}
-use Rattle.machine.specs.declared.sequence.Sequence.{Sequence}
-use Rattle.machine.specs.declared.transfer.Phase.{Phase}
-use Rattle.machine.specs.declared.transfer.Phase.the-variants.{Space, Command, Sending, Send as SendPhase, Receiving, Receive as ReceivePhase, Recovery, Ended}
+use Rattle.sequences.specs.declared.access.Access.{Access}
+use Rattle.sequences.specs.declared.access.Access.the-variants.{Read, Write, Send, Receive, Done}
+use Rattle.sequences.specs.declared.sequence.Sequence.{Sequence}
+use Rattle.machine.specs.declared.transfer.Stage.{Stage}
+use Rattle.machine.specs.declared.transfer.Stage.the-variants.{Space, Command, Sending, Send as SendPhase, Receiving, Receive as ReceivePhase, Recovery, Ended}
 use Rattle.machine.specs.declared.transfer.Work.{Work}
 use Rattle.machine.specs.Poll.{pollAccess}
-use Rattle.machine.specs.Recovery.{recoveryAccess}
+use Rattle.sequences.specs.Recovery.{recoveryAccess}
 use Rattle.machine.specs.Transfer.{at, dueAccess, resumed}
 use Rattle.runs.specs.Run.{Logged, codeOf, valueOf, usesOf, answerOf, receivedAfter, halted, times, State, afterAccess, step, run}
 use Rattle.runs.proofs.PlainLaws.{kind, poll-plain, recovery-plain}
@@ -181,7 +181,7 @@ module _ {M : Type 0} (next : M → Access) (resume : M → ℕ → M) where
 not-received : {A : Type 0} (a : Access) (i : ℕ) → kind a ≤ 1 → a ≡ Receive i → A
 not-received a i h e = absurd (let q : kind a ≡ 3 = ap kind e in omega arith)
 
-blind-in : (p : Phase) (w : Work) (r : Sequence) (i v u : ℕ) → dueAccess (at p w r) ≡ Receive i → resumed (at p w r) v ≡ resumed (at p w r) u
+blind-in : (p : Stage) (w : Work) (r : Sequence) (i v u : ℕ) → dueAccess (at p w r) ≡ Receive i → resumed (at p w r) v ≡ resumed (at p w r) u
 unfolding dueAccess resumed
 blind-in (Space q) w r i v u e = not-received (pollAccess q) i (poll-plain q) e
 blind-in Command w r i v u e = refl

@@ -11,8 +11,8 @@ use lib.Dec.{ltb}
 use lib.ListN.{length, getD, set, drop, length-append}
 use borrow.Author.Tests.{ltb-false}
 use lib.Seq.{drop-cons, set-at, append-snoc}
-use Rattle.machine.specs.declared.access.Access.{Access}
-use Rattle.machine.specs.declared.access.Access.the-variants.{Read, Write, Send, Receive, Done}
+use Rattle.sequences.specs.declared.access.Access.{Access}
+use Rattle.sequences.specs.declared.access.Access.the-variants.{Read, Write, Send, Receive, Done}
 use Rattle.runs.specs.Run.{Logged, flat, codeOf, valueOf, usesOf, halted, times, State, afterAccess, step, run, limits, logOver, put}
 
 -- STEPS

@@ -14,16 +14,16 @@ use Rattle.manual.specs.declared.Register.the-variants.{SR, PARAM, FSR, TCR, TD
 use Rattle.manual.specs.Manual.{offsetOf}
 use Rattle.words.specs.declared.transaction.Direction.{Direction}
 use Rattle.words.specs.declared.transaction.Direction.the-variants.{Tx, Rx}
-use Rattle.machine.specs.declared.access.Access.the-variants.{Read, Write, Send as SendWord, Receive as ReceiveWord}
-use Rattle.machine.specs.declared.driver.Lpspi.{Lpspi}
+use Rattle.sequences.specs.declared.access.Access.the-variants.{Read, Write, Send as SendWord, Receive as ReceiveWord}
+use Rattle.sequences.specs.declared.driver.Lpspi.{Lpspi}
 use Rattle.machine.specs.declared.poll.Poll.{Poll}
 use Rattle.machine.specs.declared.poll.Poll.the-variants.{Status, Sizes, Counts}
-use Rattle.machine.specs.declared.sequence.Sequence.{Sequence}
-use Rattle.machine.specs.declared.transfer.Phase.{Phase}
-use Rattle.machine.specs.declared.transfer.Phase.the-variants.{Space, Command, Sending, Send, Receiving, Receive}
+use Rattle.sequences.specs.declared.sequence.Sequence.{Sequence}
+use Rattle.machine.specs.declared.transfer.Stage.{Stage}
+use Rattle.machine.specs.declared.transfer.Stage.the-variants.{Space, Command, Sending, Send, Receiving, Receive}
 use Rattle.machine.specs.declared.transfer.Work.{Work}
 use Rattle.machine.specs.declared.transfer.Transfer.{Transfer}
-use Rattle.machine.specs.Poll.{pollAccess, ready}
+use Rattle.machine.specs.Poll.{pollAccess}
 use Rattle.machine.specs.Transfer.{at, counted, worked, turnAt, sendTurn, receiveTurn, startTransfer, dueAccess, resumed}
 use Rattle.runs.specs.declared.drive.Frame.{Frame}
 use Rattle.runs.specs.declared.turns.Count.{Count}
@@ -57,7 +57,7 @@ module _ (f : Frame) (script send old olds : List ℕ) (m : Transfer) where
       u′ (spot made′ used′ got) (put log made (offsetOf g) (getD script used 0)) words r (sym n) em es refl (length-put log made (offsetOf g) (getD script used 0)) refl refl
 
   -- THE THREE READS OF A POLL
-  stands-poll : (p : Poll → Phase) (w : Work) (r : Sequence) (u : Transfer) (made used got : ℕ) (log words : List ℕ) → Stands f script send old olds m (at (p Status) w r) (spot made used got) log words
+  stands-poll : (p : Poll → Stage) (w : Work) (r : Sequence) (u : Transfer) (made used got : ℕ) (log words : List ℕ) → Stands f script send old olds m (at (p Status) w r) (spot made used got) log words
       → used + 3 ≤ length script → 2 * (made + 3) ≤ length old → ((q : Poll) → dueAccess (at (p q) w r) ≡ pollAccess q)
       → resumed (at (p Status) w r) (getD script used 0) ≡ at (p Sizes) w r
       → resumed (at (p Sizes) w r) (getD script (used + 1) 0) ≡ at (p (Counts (getD script (used + 1) 0))) w r
@@ -73,7 +73,7 @@ module _ (f : Frame) (script send old olds : List ℕ) (m : Transfer) where
 
   module _ (budget made used got : ℕ) (log log′ words : List ℕ) (wide : 2 * budget ≤ length log) where
     -- in one of the three places, with what follows it
-    module _ (d : Direction) (p : Poll → Phase) (w : Work) (r : Sequence) (is : Bool) (whole : Whole d made used budget script log log′ is)
+    module _ (d : Direction) (p : Poll → Stage) (w : Work) (r : Sequence) (is : Bool) (whole : Whole d made used budget script log log′ is)
         (h : Stands f script send old olds m (at (p Status) w r) (spot made used got) log words) where
       polled : (u : Transfer) → ((q : Poll) → dueAccess (at (p q) w r) ≡ pollAccess q)
           → resumed (at (p Status) w r) (getD script used 0) ≡ at (p Sizes) w r
@@ -128,11 +128,11 @@ module _ (f : Frame) (script send old olds : List ℕ) (m : Transfer) where
 
     at-sending : ltb sent (n .send) ≡ true → Stands f script send old olds m (turnAt Tx sent got m) (spot made used got) log words
         → Stands f script send old olds m (at (Sending Status) w r) (spot made used got) log words
-    at-sending e h = subst (λ (p : Phase). Stands f script send old olds m (at p w r) (spot made used got) log words) (sends w (more-to-send e)) h
+    at-sending e h = subst (λ (p : Stage). Stands f script send old olds m (at p w r) (spot made used got) log words) (sends w (more-to-send e)) h
 
     at-receiving : ltb got (n .receive) ≡ true → Stands f script send old olds m (turnAt Rx sent got m) (spot made used got) log words
         → Stands f script send old olds m (at (Receiving Status) w r) (spot made used got) log words
-    at-receiving e h = subst (λ (p : Phase). Stands f script send old olds m (at p w r) (spot made used got) log words) (receives w (more-to-receive e)) h
+    at-receiving e h = subst (λ (p : Stage). Stands f script send old olds m (at p w r) (spot made used got) log words) (receives w (more-to-receive e)) h
 
     -- a poll that is not ready
     pub turn-waits : (d : Direction) → hasMore d n sent got ≡ true → Whole d made used budget script log log′ false

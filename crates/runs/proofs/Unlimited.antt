@@ -11,20 +11,20 @@ use lib.ListN.{length, getD, drop}
 use borrow.Author.Tests.{ltb-true, ltb-false, le-leb}
 use Rattle.words.specs.declared.transaction.Direction.{Direction}
 use Rattle.words.specs.declared.transaction.LpspiError.the-variants.{Fifo}
-use Rattle.machine.specs.declared.access.Ending.the-variants.{Ok, Err}
+use Rattle.sequences.specs.declared.access.Ending.the-variants.{Ok, Err}
 use Rattle.machine.specs.declared.flush.Flush.{Flush}
 use Rattle.machine.specs.declared.flush.Flush.the-variants.{Status, Sizes, Counts, Ended as FlushEnded}
 use Rattle.machine.specs.declared.poll.Poll.the-variants.{Status as PollStatus, Sizes as PollSizes, Counts as PollCounts}
-use Rattle.machine.specs.declared.sequence.Move.{Move}
-use Rattle.machine.specs.declared.sequence.Move.the-variants.{Keep, KeepClock, Look, Wait, WaitClock, Size, Arrived, Modify, Set, Write as WriteMove, Put, End}
-use Rattle.machine.specs.declared.sequence.Sequence.{Sequence}
-use Rattle.machine.specs.declared.transfer.Phase.{Phase}
-use Rattle.machine.specs.declared.transfer.Phase.the-variants.{Space, Command, Sending, Send, Receiving, Receive, Recovery, Ended}
+use Rattle.sequences.specs.declared.sequence.Move.{Move}
+use Rattle.sequences.specs.declared.sequence.Move.the-variants.{Keep, KeepClock, Look, Wait, WaitClock, Size, Arrived, Modify, Set, Write as WriteMove, Put, End}
+use Rattle.sequences.specs.declared.sequence.Sequence.{Sequence}
+use Rattle.machine.specs.declared.transfer.Stage.{Stage}
+use Rattle.machine.specs.declared.transfer.Stage.the-variants.{Space, Command, Sending, Send, Receiving, Receive, Recovery, Ended}
 use Rattle.machine.specs.declared.transfer.Work.{Work}
 use Rattle.machine.specs.declared.transfer.Transfer.{Transfer}
 use Rattle.machine.specs.Flush.{flushAccess, flushed}
-use Rattle.machine.specs.Sequence.{moveAccess, moved, onward}
-use Rattle.machine.specs.Recovery.{recovery, recoveryMove}
+use Rattle.sequences.specs.Sequence.{moveAccess, moved, onward}
+use Rattle.sequences.specs.Recovery.{recovery, recoveryMove}
 use Rattle.machine.specs.Transfer.{at, sendTurn, oneSent, afterRecovery, dueAccess, resumed}
 use Rattle.runs.specs.Run.{State, ended, usesOf, run}
 use Rattle.runs.specs.Unlimited.{Unlimited}
@@ -73,7 +73,7 @@ leading-next (m ∷ l) (suc i) h e = leading-next l i (omega arith) e
 
 -- THE WRITES OF A TRANSFER THAT ARE DUE IN A ROW
 
-abbrev pendingIn : Phase → ℕ → ℕ
+abbrev pendingIn : Stage → ℕ → ℕ
 pendingIn (Space p) place = 0
 pendingIn Command place = 1
 pendingIn (Sending p) place = 0
@@ -86,7 +86,7 @@ pendingIn (Ended e) place = 0
 pending : Transfer → ℕ
 pending t = pendingIn (t .phase) (t .reset .place)
 
-pending-most : (p : Phase) (place : ℕ) → pendingIn p place ≤ 10
+pending-most : (p : Stage) (place : ℕ) → pendingIn p place ≤ 10
 pending-most (Space p) place = omega arith
 pending-most Command place = omega arith
 pending-most (Sending p) place = omega arith
@@ -136,7 +136,7 @@ recovery-fewer (WriteMove k w) d r em e u = recovery-write d r (ap writes em)
 recovery-fewer (Put k) d r em e u = recovery-write d r (ap writes em)
 recovery-fewer End d r em e u = absurd (let z : _≡_ {A = ℕ} 0 1 = cc in omega arith)
 
-fewer : (p : Phase) (w : Work) (r : Sequence) → ended (dueAccess (at p w r)) ≡ false → usesOf (dueAccess (at p w r)) ≡ 0 → pending (resumed (at p w r) 0) < pending (at p w r)
+fewer : (p : Stage) (w : Work) (r : Sequence) → ended (dueAccess (at p w r)) ≡ false → usesOf (dueAccess (at p w r)) ≡ 0 → pending (resumed (at p w r) 0) < pending (at p w r)
 unfolding dueAccess resumed pending
 fewer (Space PollStatus) w r e u = absurd (omega arith)
 fewer (Space PollSizes) w r e u = absurd (omega arith)

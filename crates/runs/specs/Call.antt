@@ -4,17 +4,18 @@ use Prim.Native.Nat.{ℕ}
 use mathlib.Core.Bool.{cond}
 use mathlib.Core.List.{List}
 use lib.ListN.{length}
-use Rattle.machine.specs.declared.access.Ending.the-variants.{Limits}
-use Rattle.machine.specs.declared.call.Call.{Call}
-use Rattle.machine.specs.declared.driver.Lpspi.{Lpspi}
-use Rattle.machine.specs.declared.sequence.Sequence.{Sequence}
-use Rattle.machine.specs.Sequence.{sequenceStart}
-use Rattle.machine.specs.Access.{numberOf}
-use Rattle.machine.specs.Call.{callStart, callAccess, callAfter}
+use Rattle.sequences.specs.declared.access.Ending.the-variants.{Limits}
+use Rattle.sequences.specs.declared.call.Call.{Call}
+use Rattle.sequences.specs.declared.driver.Lpspi.{Lpspi}
+use Rattle.sequences.specs.declared.sequence.Sequence.{Sequence}
+use Rattle.sequences.specs.Sequence.{sequenceStart}
+use Rattle.sequences.specs.Access.{numberOf}
+use Rattle.sequences.specs.Call.{callStart, callAccess, callAfter}
 use Rattle.runs.specs.declared.call.Called.{Called}
 use Rattle.runs.specs.declared.result.RunResult.{RunResult}
 use Rattle.runs.specs.Run.{State, limits, run, start, noWords, endingOf, logOver}
 
+-- after at most `budget` accesses of a call
 abbrev pub callStates : Call → Lpspi → List ℕ → ℕ → State Sequence
 callStates c d script budget = run (callAccess c) (callAfter c) noWords script budget (start (callStart c d))
 

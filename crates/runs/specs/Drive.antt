@@ -1,7 +1,7 @@
--- The run of a transfer as the code makes it, over FIFO words. `wordsRun` is what `run_words` promises; a caller's words are elements
--- (crate transfers).
+-- The run of a transfer over FIFO words, the border between this crate and those above it: what `run_words`, `word_in` and `keep` promise. No
+-- contract of a call of document 01 cites it: there the words are elements (transfers `Transfers`).
 -- Assumes nothing.
-use Prim.Native.Nat.{ℕ, _+_, min}
+use Prim.Native.Nat.{ℕ, min}
 use mathlib.Core.Bool.{cond, _&&_}
 use mathlib.Core.List.{List}
 use mathlib.Core.Path.{_≡_}
@@ -10,12 +10,12 @@ use lib.ListN.{length, getD, set}
 use Rattle.words.specs.Width.{widthBits}
 use Rattle.words.specs.Word.{laid}
 use Rattle.words.specs.Buffer.{cutWord}
-use Rattle.machine.specs.declared.access.Access.{Access}
-use Rattle.machine.specs.declared.access.Access.the-variants.{Read, Write, Send, Receive, Done}
-use Rattle.machine.specs.declared.driver.Lpspi.{Lpspi}
+use Rattle.sequences.specs.declared.access.Access.{Access}
+use Rattle.sequences.specs.declared.access.Access.the-variants.{Read, Write, Send, Receive, Done}
+use Rattle.sequences.specs.declared.driver.Lpspi.{Lpspi}
 use Rattle.machine.specs.declared.transfer.Transfer.{Transfer}
-use Rattle.machine.specs.declared.access.Ending.the-variants.{Limits}
-use Rattle.machine.specs.Access.{numberOf}
+use Rattle.sequences.specs.declared.access.Ending.the-variants.{Limits}
+use Rattle.sequences.specs.Access.{numberOf}
 use Rattle.machine.specs.Transfer.{startTransfer, counted, dueAccess, resumed}
 use Rattle.runs.specs.declared.drive.Frame.{Frame}
 use Rattle.runs.specs.declared.drive.Spot.{Spot}
@@ -53,18 +53,18 @@ sentFrom f send olds rs i = wordIn f send (laid rs olds) (stored rs olds) i
 
 module _ (f : Frame) (script send : List ℕ) where
   -- the run from the transfer t, `olds` the places for received words as found
-  abbrev pub states : List ℕ → Transfer → ℕ → State Transfer
-  states olds t n = run dueAccess resumed (sentFrom f send olds) script n (start t)
+  abbrev pub wordsStates : List ℕ → Transfer → ℕ → State Transfer
+  wordsStates olds t n = run dueAccess resumed (sentFrom f send olds) script n (start t)
 
-  -- after `made` accesses of it the code holds the transfer u, the spot s, this log and these words
+  -- (private contracts cite it) after `made` accesses of it the code holds the transfer u, the spot s, this log and these words
   pub record Stands (old olds : List ℕ) (t u : Transfer) (s : Spot) (log words : List ℕ) : Type 0 where
-    pub machine : states olds t (s .made) .machine ≡ u
-    pub used : states olds t (s .made) .used ≡ s .used
-    pub pairs : length (states olds t (s .made) .log) ≡ s .made
-    pub got : stored (states olds t (s .made) .received) olds ≡ s .received
+    pub machine : wordsStates olds t (s .made) .machine ≡ u
+    pub used : wordsStates olds t (s .made) .used ≡ s .used
+    pub pairs : length (wordsStates olds t (s .made) .log) ≡ s .made
+    pub got : stored (wordsStates olds t (s .made) .received) olds ≡ s .received
     pub size : length log ≡ length old
-    pub held : log ≡ logOver old (states olds t (s .made) .log)
-    pub placed : words ≡ laid (states olds t (s .made) .received) olds
+    pub held : log ≡ logOver old (wordsStates olds t (s .made) .log)
+    pub placed : words ≡ laid (wordsStates olds t (s .made) .received) olds
 
 -- what it comes to, document 01's number of it, the log and the received words
 pub record DrivenLeft : Type 0 where
@@ -90,4 +90,4 @@ resultOf d r = record { ending = r .ending; accesses = r .spot .made; answers = 
 unfoldable pub wordsRun : Lpspi → ℕ → Count → Frame → ℕ → List ℕ → List ℕ → List ℕ → List ℕ → DrivenLeft
 wordsRun d command n f budget script send log olds =
     cond (limits budget log) (drivenLeft (record { ending = Limits; spot = record { made = 0; used = 0; received = 0 } }) log olds)
-    (drivenBy log olds (states f script send olds (startTransfer d command (n .send) (n .receive)) budget))
+    (drivenBy log olds (wordsStates f script send olds (startTransfer d command (n .send) (n .receive)) budget))

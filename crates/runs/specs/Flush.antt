@@ -5,17 +5,19 @@ use mathlib.Core.Bool.{Bool, true, false, cond}
 use mathlib.Core.List.{List}
 use mathlib.Core.Path.{_≡_}
 use lib.ListN.{length, getD}
-use Rattle.machine.specs.declared.driver.Lpspi.{Lpspi}
+use Rattle.sequences.specs.declared.driver.Lpspi.{Lpspi}
 use Rattle.machine.specs.declared.flush.Flush.{Flush}
 use Rattle.machine.specs.declared.flush.Flush.the-variants.{Status, Sizes, Counts, Ended}
 use Rattle.machine.specs.Flush.{flushAccess, flushed}
 use Rattle.runs.specs.declared.flush.Flushed.{Flushed}
 use Rattle.runs.specs.Loop.{At}
-use Rattle.runs.specs.Run.{State, Left, limits, refused, run, start, noWords, endingOf, logOver, ran}
+use Rattle.runs.specs.Run.{State, Left, limits, overLimits, run, start, noWords, endingOf, logOver, ran}
 
+-- after at most `budget` accesses of a flush
 abbrev pub flushStates : List ℕ → ℕ → State Flush
 flushStates script budget = run flushAccess flushed noWords script budget (start Status)
 
+-- what the loop leaves (private contracts cite it)
 pub record FlushLeft : Type 0 where
   pub flushed : Flushed
   pub log : List ℕ
@@ -53,4 +55,4 @@ flushLoop script budget log =
 -- the call: number 5, or the run; the driver value is as it was
 abbrev pub flushRun : Lpspi → ℕ → List ℕ → List ℕ → Left
 flushRun d budget script log =
-    cond (limits budget log) (refused d log) (ran flushAccess d log (flushStates script budget))
+    cond (limits budget log) (overLimits d log) (ran flushAccess d log (flushStates script budget))

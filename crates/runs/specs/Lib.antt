@@ -1,9 +1,10 @@
 -- Read in this order.
 pub mod Run
-pub mod Loop
 pub mod Flush
 pub mod Call
 pub mod Unlimited
 pub mod Unready
 pub mod Drive
+-- only private contracts cite these
+pub mod Loop
 pub mod Turns

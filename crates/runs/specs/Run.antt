@@ -8,12 +8,12 @@ use lib.Dec.{leb, ltb}
 use lib.ListN.{length, getD, set, drop}
 use Rattle.manual.specs.declared.Register.the-variants.{TDR, RDR}
 use Rattle.manual.specs.Manual.{offsetOf}
-use Rattle.machine.specs.declared.access.Access.{Access}
-use Rattle.machine.specs.declared.access.Access.the-variants.{Read, Write, Send, Receive, Done}
-use Rattle.machine.specs.declared.access.Ending.{Ending}
-use Rattle.machine.specs.declared.access.Ending.the-variants.{Stopped, Limits}
-use Rattle.machine.specs.declared.driver.Lpspi.{Lpspi}
-use Rattle.machine.specs.Access.{numberOf}
+use Rattle.sequences.specs.declared.access.Access.{Access}
+use Rattle.sequences.specs.declared.access.Access.the-variants.{Read, Write, Send, Receive, Done}
+use Rattle.sequences.specs.declared.access.Ending.{Ending}
+use Rattle.sequences.specs.declared.access.Ending.the-variants.{Stopped, Limits}
+use Rattle.sequences.specs.declared.driver.Lpspi.{Lpspi}
+use Rattle.sequences.specs.Access.{numberOf}
 use Rattle.runs.specs.declared.result.RunResult.{RunResult}
 
 -- entry of a run, 5: budget over 8,000, or log shorter than twice the budget
@@ -29,10 +29,14 @@ abbrev pub flat : List Logged → List ℕ
 flat [] = []
 flat (a ∷ l) = a .at ∷ a .value ∷ flat l
 
+-- what a write adds to its offset
+abbrev pub writeMark : ℕ
+writeMark = 0x1000
+
 abbrev pub codeOf : Access → ℕ
 codeOf (Read r) = offsetOf r
-codeOf (Write r v) = 0x1000 + offsetOf r
-codeOf (Send i) = 0x1000 + offsetOf TDR
+codeOf (Write r v) = writeMark + offsetOf r
+codeOf (Send i) = writeMark + offsetOf TDR
 codeOf (Receive i) = offsetOf RDR
 codeOf (Done e) = 0
 
@@ -140,9 +144,13 @@ pub record Left : Type 0 where
 abbrev pub left : RunResult → List ℕ → Left
 left r log = record { result = r; number = numberOf (r .ending); log = log }
 
+-- of a call that made no access
+abbrev pub unmoved : Lpspi → Ending → RunResult
+unmoved d e = record { ending = e; accesses = 0; answers = 0; driver = d }
+
 -- number 5: all as found
-abbrev pub refused : Lpspi → List ℕ → Left
-refused d log = left (record { ending = Limits; accesses = 0; answers = 0; driver = d }) log
+abbrev pub overLimits : Lpspi → List ℕ → Left
+overLimits d log = left (unmoved d Limits) log
 
 -- log places past the pairs keep their contents
 abbrev pub logOver : List ℕ → List Logged → List ℕ

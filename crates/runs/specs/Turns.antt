@@ -10,7 +10,7 @@ use Rattle.manual.specs.declared.Register.the-variants.{SR, PARAM, FSR}
 use Rattle.manual.specs.Manual.{offsetOf}
 use Rattle.words.specs.declared.transaction.Direction.{Direction}
 use Rattle.words.specs.declared.transaction.Direction.the-variants.{Tx, Rx}
-use Rattle.machine.specs.declared.driver.Lpspi.{Lpspi}
+use Rattle.sequences.specs.declared.driver.Lpspi.{Lpspi}
 use Rattle.machine.specs.declared.transfer.Transfer.{Transfer}
 use Rattle.machine.specs.Poll.{failed, ready}
 use Rattle.machine.specs.Transfer.{startTransfer, turnAt}

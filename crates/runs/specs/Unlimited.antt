@@ -5,7 +5,7 @@ use mathlib.Core.Bool.{true}
 use mathlib.Core.List.{List}
 use mathlib.Core.Path.{_≡_}
 use lib.ListN.{length}
-use Rattle.machine.specs.declared.access.Access.{Access}
+use Rattle.sequences.specs.declared.access.Access.{Access}
 use Rattle.runs.specs.Run.{State, halted, run}
 
 module _ {M : Type 0} (next : M → Access) (resume : M → ℕ → M) (words : List ℕ → ℕ → ℕ) (script : List ℕ) where

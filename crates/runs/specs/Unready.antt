@@ -8,8 +8,8 @@ use Rattle.words.specs.declared.transaction.Direction.{Direction}
 use Rattle.words.specs.declared.transaction.Direction.the-variants.{Tx, Rx}
 use Rattle.machine.specs.declared.poll.Poll.{Poll}
 use Rattle.machine.specs.declared.poll.Poll.the-variants.{Status, Sizes, Counts}
-use Rattle.machine.specs.declared.transfer.Phase.{Phase}
-use Rattle.machine.specs.declared.transfer.Phase.the-variants.{Space, Command, Sending, Send, Receiving, Receive, Recovery, Ended}
+use Rattle.machine.specs.declared.transfer.Stage.{Stage}
+use Rattle.machine.specs.declared.transfer.Stage.the-variants.{Space, Command, Sending, Send, Receiving, Receive, Recovery, Ended}
 use Rattle.machine.specs.declared.transfer.Transfer.{Transfer}
 use Rattle.machine.specs.Poll.{ready}
 use Rattle.machine.specs.Transfer.{dueAccess, resumed}
@@ -21,7 +21,7 @@ unreadyBy d Status v = 0
 unreadyBy d Sizes v = 0
 unreadyBy d (Counts param) v = cond (ready d param v) 0 1
 
-abbrev pub unreadyIn : Phase → ℕ → ℕ
+abbrev pub unreadyIn : Stage → ℕ → ℕ
 unreadyIn (Space p) v = unreadyBy Tx p v
 unreadyIn Command v = 0
 unreadyIn (Sending p) v = unreadyBy Tx p v

@@ -1,9 +1,9 @@
 // What an access does in a run, one small function a part.
 ghost use mathlib.Core.Path.{_≡_};
 ghost use Rattle.runs.specs.Run.{codeOf, usesOf, answerOf, halted, endingOf};
-use machine::access::Access;
-use machine::access::Ending;
 use manual::Register;
+use sequences::access::Access;
+use sequences::access::Ending;
 
 // Added to the offset of a register that is written.
 pub(crate) const WRITE: u32 = 0x1000;

@@ -13,11 +13,11 @@ use crate::access::uses_of;
 use crate::drive::answer;
 use crate::log::limits;
 use crate::log::put;
-use machine::access::Access;
-use machine::access::Ending;
-use machine::call::Call;
-use machine::driver::Lpspi;
-use machine::sequence::Sequence;
+use sequences::access::Access;
+use sequences::access::Ending;
+use sequences::call::Call;
+use sequences::driver::Lpspi;
+use sequences::sequence::Sequence;
 
 // What a call comes to; the sequence has the registers that it read and the driver value.
 pub struct Called {

@@ -8,16 +8,16 @@ ghost use lib.ListN.{length, getD, set};
 ghost use Rattle.machine.specs.declared.transfer.Transfer.{Transfer as Machine};
 ghost use Rattle.machine.specs.Transfer.{counted};
 ghost use Rattle.runs.specs.Run.{valueOf};
-ghost use Rattle.runs.specs.Drive.{wordIn, gotAfter, wordsAfter, Stands, states, drivenBy, drivenLeft};
+ghost use Rattle.runs.specs.Drive.{wordIn, gotAfter, wordsAfter, Stands, wordsStates, drivenBy, drivenLeft};
 use crate::access::answer_of;
 use crate::access::code_of;
 use crate::access::ending_of;
 use crate::access::halted;
 use crate::access::uses_of;
 use crate::log::put;
-use machine::access::Access;
-use machine::access::Ending;
 use machine::transfer::Transfer;
+use sequences::access::Access;
+use sequences::access::Ending;
 use words::buffer::cut_word;
 use words::width::Width;
 
@@ -98,6 +98,7 @@ pub(crate) fn store(words: &mut [u32], received: usize, value: u32) -> usize
     }
 }
 
+// What an access received is stored. The words that are stored then.
 pub fn keep(access: Access, words: &mut [u32], received: usize, value: u32) -> usize
     ensures { λ r. ⌜ (r ≡ gotAfter access received (length (now (words .entry)))) × (now (words .exit) ≡ wordsAfter access (now (words .entry)) received value) ⌝ }
 {
@@ -125,7 +126,7 @@ pub(crate) fn drive(
     requires within { ⌜ spot .made ≤ budget ⌝ }
     requires answered { ⌜ spot .used ≤ spot .made ⌝ }
     requires inside { ⌜ spot .received ≤ length (now words) ⌝ }
-    ensures { λ r. ⌜ ((t : Machine) (old olds : List ℕ) → Stands frame (now (script .entry)) (now (send .entry)) old olds t transfer spot (now (log .entry)) (now (words .entry)) → drivenLeft r (now (log .exit)) (now (words .exit)) ≡ drivenBy old olds (states frame (now (script .entry)) (now (send .entry)) olds t budget)) ⌝ }
+    ensures { λ r. ⌜ ((t : Machine) (old olds : List ℕ) → Stands frame (now (script .entry)) (now (send .entry)) old olds t transfer spot (now (log .entry)) (now (words .entry)) → drivenLeft r (now (log .exit)) (now (words .exit)) ≡ drivenBy old olds (wordsStates frame (now (script .entry)) (now (send .entry)) olds t budget)) ⌝ }
 {
     let mut t = transfer;
     let mut made = spot.made;

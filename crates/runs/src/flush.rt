@@ -9,10 +9,10 @@ ghost use Rattle.runs.specs.Flush.{flushStates, flushLoop, flushRun, flu
 use crate::log::limits;
 use crate::log::put;
 use crate::result::RunResult;
-use machine::access::Ending;
-use machine::driver::Lpspi;
 use machine::flush::Flush;
 use manual::Register;
+use sequences::access::Ending;
+use sequences::driver::Lpspi;
 
 // What the loop comes to.
 pub(crate) struct Flushed {

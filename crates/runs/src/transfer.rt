@@ -3,7 +3,7 @@ ghost use mathlib.Core.Path.{_≡_};
 ghost use Prim.Native.Nat.{_*_, _≤_};
 ghost use lib.ListN.{length};
 ghost use Rattle.machine.specs.Transfer.{startTransfer};
-ghost use Rattle.runs.specs.Drive.{drivenBy, drivenLeft, states, wordsRun};
+ghost use Rattle.runs.specs.Drive.{drivenBy, drivenLeft, wordsStates, wordsRun};
 use crate::drive::Driven;
 use crate::drive::Frame;
 use crate::drive::Spot;
@@ -13,9 +13,9 @@ use crate::turns::Count;
 use crate::turns::Turns;
 use crate::turns::take_turns;
 use crate::turns::wait_for_space;
-use machine::access::Ending;
-use machine::driver::Lpspi;
 use machine::transfer::Transfer;
+use sequences::access::Ending;
+use sequences::driver::Lpspi;
 use words::transaction::Direction;
 use words::transaction::Transaction;
 
@@ -33,7 +33,7 @@ fn run(
 ) -> Driven
     requires room { ⌜ 2 * budget ≤ length (now log) ⌝ }
     requires places { ⌜ count .receive ≤ length (now words) ⌝ }
-    ensures { λ r. ⌜ drivenLeft r (now (log .exit)) (now (words .exit)) ≡ drivenBy (now (log .entry)) (now (words .entry)) (states frame (now (script .entry)) (now (send .entry)) (now (words .entry)) (startTransfer driver (transaction .0) (count .send) (count .receive)) budget) ⌝ }
+    ensures { λ r. ⌜ drivenLeft r (now (log .exit)) (now (words .exit)) ≡ drivenBy (now (log .entry)) (now (words .entry)) (wordsStates frame (now (script .entry)) (now (send .entry)) (now (words .entry)) (startTransfer driver (transaction .0) (count .send) (count .receive)) budget) ⌝ }
 {
     let transfer = Transfer::start(driver, transaction, count.send, count.receive);
     let spaced = wait_for_space(transaction.as_raw(), budget, script, log);

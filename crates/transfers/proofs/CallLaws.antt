@@ -12,15 +12,15 @@ use Rattle.words.specs.declared.transaction.LpspiError.the-variants.{FrameSize}
 use Rattle.words.specs.Word.{laid}
 use Rattle.words.specs.Buffer.{wordCount, unpackWords}
 use Rattle.words.specs.Command.{frameAccepted, commanded}
-use Rattle.machine.specs.declared.access.Ending.{Ending}
-use Rattle.machine.specs.declared.access.Ending.the-variants.{Ok, Err}
-use Rattle.machine.specs.declared.driver.Lpspi.{Lpspi}
+use Rattle.sequences.specs.declared.access.Ending.{Ending}
+use Rattle.sequences.specs.declared.access.Ending.the-variants.{Ok, Err}
+use Rattle.sequences.specs.declared.driver.Lpspi.{Lpspi}
 use Rattle.machine.specs.declared.transfer.Transfer.{Transfer}
-use Rattle.machine.specs.Driver.{driverCommand}
+use Rattle.sequences.specs.Driver.{driverCommand}
 use Rattle.machine.specs.Transfer.{startTransfer, endedTransfer, dueAccess, resumed}
 use Rattle.runs.specs.declared.result.RunResult.{RunResult}
-use Rattle.runs.specs.Run.{State, start, run, limits, endingOf, refused, ran}
-use Rattle.transfers.specs.Transfers.{Plan, begun, states, TransferLeft, transferred, separatePlan, inPlacePlan, exchangeSeparate, exchange}
+use Rattle.runs.specs.Run.{State, start, run, limits, endingOf, overLimits, ran}
+use Rattle.transfers.specs.Transfers.{Plan, begun, transferStates, TransferLeft, transferred, separatePlan, inPlacePlan, exchangeSeparate, exchange}
 use Rattle.runs.specs.Unlimited.{Unlimited}
 use Rattle.runs.specs.Unready.{unreadyPolls}
 use Rattle.runs.proofs.RunLaws.{run-halted, run-log, run-used, small-budget, room}
@@ -61,7 +61,7 @@ module _ (k : ℕ) (d : Lpspi) (p : Plan) (budget : ℕ) (script : List ℕ) whe
 
   abbrev leaves : Bool → List ℕ → List ℕ → TransferLeft
   leaves b buffer log =
-      cond b (record { call = refused d log; buffer = buffer })
+      cond b (record { call = overLimits d log; buffer = buffer })
       (let s = from (begun k d p) in
       record { call = ran dueAccess d log s; buffer = laid (unpackWords (d .order) k (p .total) (s .received)) buffer })
 
@@ -100,7 +100,7 @@ module _ (k : ℕ) (d : Lpspi) (p : Plan) (budget : ℕ) (script : List ℕ) whe
           }
 
   -- WITH BUDGET ENOUGH FOR ITS SCRIPT a call leaves what its run comes to with no limit on accesses
-  pub call-unlimited : 11 * (length script + 1) ≤ budget → Unlimited dueAccess resumed (p .words) script (start (begun k d p)) (states k d p script budget)
+  pub call-unlimited : 11 * (length script + 1) ≤ budget → Unlimited dueAccess resumed (p .words) script (start (begun k d p)) (transferStates k d p script budget)
   call-unlimited h = transfer-unlimited (p .words) script budget (start (begun k d p)) h
 
 -- AN OK EXCHANGE of n words with w unready polls makes at most 4 + 8n + 3w accesses

@@ -22,11 +22,11 @@ use Rattle.words.specs.Longer.{longer}
 use Rattle.words.specs.Width.{widthBits}
 use Rattle.words.proofs.BufferLaws.{laid-nothing}
 use Rattle.words.proofs.CommandLaws.{accepted-word, refused-size}
-use Rattle.machine.specs.declared.access.Ending.{Ending}
-use Rattle.machine.specs.declared.access.Ending.the-variants.{Ok, Err, Limits}
-use Rattle.machine.specs.declared.driver.Lpspi.{Lpspi}
+use Rattle.sequences.specs.declared.access.Ending.{Ending}
+use Rattle.sequences.specs.declared.access.Ending.the-variants.{Ok, Err, Limits}
+use Rattle.sequences.specs.declared.driver.Lpspi.{Lpspi}
 use Rattle.machine.specs.declared.transfer.Transfer.{Transfer}
-use Rattle.machine.specs.Driver.{driverCommand}
+use Rattle.sequences.specs.Driver.{driverCommand}
 use Rattle.runs.specs.declared.drive.Driven.{Driven}
 use Rattle.runs.specs.declared.drive.Frame.{Frame}
 use Rattle.runs.specs.declared.result.RunResult.{RunResult}

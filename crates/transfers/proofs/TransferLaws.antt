@@ -24,17 +24,17 @@ use Rattle.words.specs.Longer.{longer}
 use Rattle.words.specs.Width.{widthBits}
 use Rattle.words.proofs.CommandLaws.{accepted-between}
 use Rattle.words.proofs.LaidLaws.{in-place-word, unpack-take, packed-at, laid-at, take-laid, word-past, total-ends}
-use Rattle.machine.specs.declared.access.Ending.{Ending}
-use Rattle.machine.specs.declared.driver.Lpspi.{Lpspi}
+use Rattle.sequences.specs.declared.access.Ending.{Ending}
+use Rattle.sequences.specs.declared.driver.Lpspi.{Lpspi}
 use Rattle.machine.specs.declared.transfer.Transfer.{Transfer}
-use Rattle.machine.specs.Driver.{driverCommand}
+use Rattle.sequences.specs.Driver.{driverCommand}
 use Rattle.machine.specs.Transfer.{startTransfer, endedTransfer, dueAccess, resumed}
 use Rattle.runs.specs.declared.drive.Frame.{Frame}
 use Rattle.runs.specs.declared.drive.Driven.{Driven}
 use Rattle.runs.specs.declared.result.RunResult.{RunResult}
 use Rattle.runs.specs.Run.{State, start, run, limits, endingOf, logOver, left}
-use Rattle.transfers.specs.Transfers.{Plan, begun, states, transferLeft, transferred}
-use Rattle.runs.specs.Drive.{stored, sentFrom, drivenLeft, drivenBy, DrivenLeft, resultOf, states as driveStates}
+use Rattle.transfers.specs.Transfers.{Plan, begun, transferStates, transferLeft, transferred}
+use Rattle.runs.specs.Drive.{stored, sentFrom, drivenLeft, drivenBy, DrivenLeft, resultOf, wordsStates}
 use Rattle.runs.proofs.RunLaws.{run-halted}
 use Rattle.runs.proofs.RunDepends.{run-words}
 
@@ -64,7 +64,7 @@ module _ (k : ℕ) (d : Lpspi) (p : Plan) (buffer : List ℕ) (budget : ℕ) (sc
       → transferLeft (record { ending = e; accesses = 0; answers = 0; driver = d }) log buffer ≡ transferred k d p buffer budget script log
   unfolding dueAccess
   left-unstarted e h b =
-      let s : states k d p script budget ≡ start (endedTransfer d e) =
+      let s : transferStates k d p script budget ≡ start (endedTransfer d e) =
       ap (λ (t : Transfer). run dueAccess resumed (p .words) script budget (start t)) b ∙ run-halted dueAccess resumed (p .words) script budget (start (endedTransfer d e)) refl in
       rw (h, s)
 
@@ -73,7 +73,7 @@ module _ (k : ℕ) (d : Lpspi) (p : Plan) (buffer : List ℕ) (budget : ℕ) (sc
       (some : len ≡ 0 → ⊥) (a : frameAccepted (k * len) ≡ true) (c : command ≡ p .command (driverCommand d (setField (Tcr FRAMESZ) (k * len - 1) 0)))
       (w : (rs : List ℕ) (i : ℕ) → sentFrom f send olds rs i ≡ p .words rs i) where
     abbrev coded : State Transfer
-    coded = driveStates f script send olds (startTransfer d command n m) budget
+    coded = wordsStates f script send olds (startTransfer d command n m) budget
 
     begins : startTransfer d command n m ≡ begun k d p
     begins =
@@ -81,8 +81,8 @@ module _ (k : ℕ) (d : Lpspi) (p : Plan) (buffer : List ℕ) (budget : ℕ) (sc
         ∙ rw (ne-eqb (p .total) 0 (λ (e : p .total ≡ 0). some (et ∙ e)), ap (λ (x : ℕ). frameAccepted (k * x)) (sym et) ∙ a)
         (ap (λ (x : ℕ). startTransfer d x (p .send) (p .receive)) (c ∙ ap (λ (x : ℕ). p .command (driverCommand d (setField (Tcr FRAMESZ) (k * x - 1) 0))) et))
 
-    same-states : coded ≡ states k d p script budget
-    same-states =
+    same-transferStates : coded ≡ transferStates k d p script budget
+    same-transferStates =
         run-words dueAccess resumed script (sentFrom f send olds) (p .words) w budget (start (startTransfer d command n m))
         ∙ ap (λ (t : Transfer). run dueAccess resumed (p .words) script budget (start t)) begins
 
@@ -97,8 +97,8 @@ module _ (k : ℕ) (d : Lpspi) (p : Plan) (buffer : List ℕ) (budget : ℕ) (sc
         ∙ ap (λ (s : State Transfer). record {
           call = left (record { ending = endingOf (dueAccess (s .machine)); accesses = length (s .log); answers = s .used; driver = d }) (logOver log (s .log));
           buffer = given (drivenBy log olds s);
-        }) same-states
-        ∙ rw (h, shown (states k d p script budget))
+        }) same-transferStates
+        ∙ rw (h, shown (transferStates k d p script budget))
 
 -- THE WORDS THAT ARE STORED give the elements of all words received
 pub stored-elements : (o : BitOrder) (k total : ℕ) (rs olds : List ℕ) → 0 < perWord k → wordCount k total ≤ length olds

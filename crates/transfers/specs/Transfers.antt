@@ -10,13 +10,13 @@ use Rattle.words.specs.declared.transaction.LpspiError.the-variants.{FrameSize}
 use Rattle.words.specs.Word.{laid}
 use Rattle.words.specs.Buffer.{wordCount, wordAt, unpackWords}
 use Rattle.words.specs.Command.{frameAccepted, commanded, setFlag}
-use Rattle.machine.specs.declared.access.Ending.the-variants.{Ok, Err}
-use Rattle.machine.specs.declared.driver.Lpspi.{Lpspi}
+use Rattle.sequences.specs.declared.access.Ending.the-variants.{Ok, Err}
+use Rattle.sequences.specs.declared.driver.Lpspi.{Lpspi}
 use Rattle.machine.specs.declared.transfer.Transfer.{Transfer}
-use Rattle.machine.specs.Driver.{driverCommand}
+use Rattle.sequences.specs.Driver.{driverCommand}
 use Rattle.machine.specs.Transfer.{startTransfer, endedTransfer, dueAccess, resumed}
 use Rattle.runs.specs.declared.result.RunResult.{RunResult}
-use Rattle.runs.specs.Run.{State, Left, left, limits, refused, run, start, ran}
+use Rattle.runs.specs.Run.{State, Left, left, limits, overLimits, run, start, ran}
 
 -- what a transfer is: its total length in elements, what is set in its command beside what the driver sets, the FIFO words that it sends and
 -- receives, and the word sent at a place, by the words received so far
@@ -42,14 +42,14 @@ pub record TransferLeft : Type 0 where
 abbrev pub transferLeft : RunResult → List ℕ → List ℕ → TransferLeft
 transferLeft r log buffer = record { call = left r log; buffer = buffer }
 
-abbrev pub states : ℕ → Lpspi → Plan → List ℕ → ℕ → State Transfer
-states k d p script budget = run dueAccess resumed (p .words) script budget (start (begun k d p))
+abbrev pub transferStates : ℕ → Lpspi → Plan → List ℕ → ℕ → State Transfer
+transferStates k d p script budget = run dueAccess resumed (p .words) script budget (start (begun k d p))
 
 -- the call: number 5, or the run; the elements received so far stand over the front of the buffer, the others are kept
 abbrev pub transferred : ℕ → Lpspi → Plan → List ℕ → ℕ → List ℕ → List ℕ → TransferLeft
 transferred k d p buffer budget script log =
-    cond (limits budget log) (record { call = refused d log; buffer = buffer })
-    (let s = states k d p script budget in
+    cond (limits budget log) (record { call = overLimits d log; buffer = buffer })
+    (let s = transferStates k d p script budget in
     record { call = ran dueAccess d log s; buffer = laid (unpackWords (d .order) k (p .total) (s .received)) buffer })
 
 -- the total length is the longer buffer's; the write buffer is sent
@@ -82,6 +82,7 @@ readPlan k d buf =
     let total = length buf in
     record { total = total; command = setFlag TXMSK true; send = 0; receive = wordCount k total; words = λ rs i. 0 }
 
+-- THE FOUR TRANSFERS, from driver value, buffers, budget, script and log
 abbrev pub exchangeSeparate : ℕ → Lpspi → List ℕ → List ℕ → ℕ → List ℕ → List ℕ → TransferLeft
 exchangeSeparate k d read write = transferred k d (separatePlan k d read write) read
 

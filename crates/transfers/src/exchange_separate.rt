@@ -3,14 +3,13 @@ ghost use mathlib.Core.Path.{_≡_};
 ghost use Rattle.transfers.specs.Transfers.{transferLeft, exchangeSeparate};
 use crate::entry::WORDS;
 use crate::entry::result;
-use crate::entry::unmoved;
-use machine::access::Ending;
-use machine::driver::Lpspi;
 use runs::drive::Frame;
 use runs::log::limits;
 use runs::result::RunResult;
 use runs::transfer::run_words;
 use runs::turns::Count;
+use sequences::access::Ending;
+use sequences::driver::Lpspi;
 use words::buffer::pack_words_u8;
 use words::buffer::pack_words_u16;
 use words::buffer::pack_words_u32;
@@ -36,15 +35,15 @@ pub fn exchange_separate_u8(
     ensures { λ r. ⌜ transferLeft r (now (log .exit)) (now (read .exit)) ≡ exchangeSeparate 8 driver (now (read .entry)) (now (write .entry)) budget (now (script .entry)) (now (log .entry)) ⌝ }
 {
     if limits(budget, log) {
-        return unmoved(driver, Ending::Limits);
+        return RunResult::unmoved(driver, Ending::Limits);
     }
     let longer = longer_u8(&read[..], write);
     let total = longer.len();
     if total == 0 {
-        return unmoved(driver, Ending::Ok);
+        return RunResult::unmoved(driver, Ending::Ok);
     }
     let TransactionResult::Ok(transaction) = Transaction::new_u8s(longer) else {
-        return unmoved(driver, Ending::Err(LpspiError::FrameSize));
+        return RunResult::unmoved(driver, Ending::Err(LpspiError::FrameSize));
     };
     let order = driver.bit_order();
     let n = Width::U8.word_count(total);
@@ -88,15 +87,15 @@ pub fn exchange_separate_u16(
     ensures { λ r. ⌜ transferLeft r (now (log .exit)) (now (read .exit)) ≡ exchangeSeparate 16 driver (now (read .entry)) (now (write .entry)) budget (now (script .entry)) (now (log .entry)) ⌝ }
 {
     if limits(budget, log) {
-        return unmoved(driver, Ending::Limits);
+        return RunResult::unmoved(driver, Ending::Limits);
     }
     let longer = longer_u16(&read[..], write);
     let total = longer.len();
     if total == 0 {
-        return unmoved(driver, Ending::Ok);
+        return RunResult::unmoved(driver, Ending::Ok);
     }
     let TransactionResult::Ok(transaction) = Transaction::new_u16s(longer) else {
-        return unmoved(driver, Ending::Err(LpspiError::FrameSize));
+        return RunResult::unmoved(driver, Ending::Err(LpspiError::FrameSize));
     };
     let order = driver.bit_order();
     let n = Width::U16.word_count(total);
@@ -140,15 +139,15 @@ pub fn exchange_separate_u32(
     ensures { λ r. ⌜ transferLeft r (now (log .exit)) (now (read .exit)) ≡ exchangeSeparate 32 driver (now (read .entry)) (now (write .entry)) budget (now (script .entry)) (now (log .entry)) ⌝ }
 {
     if limits(budget, log) {
-        return unmoved(driver, Ending::Limits);
+        return RunResult::unmoved(driver, Ending::Limits);
     }
     let longer = longer_u32(&read[..], write);
     let total = longer.len();
     if total == 0 {
-        return unmoved(driver, Ending::Ok);
+        return RunResult::unmoved(driver, Ending::Ok);
     }
     let TransactionResult::Ok(transaction) = Transaction::new_u32s(longer) else {
-        return unmoved(driver, Ending::Err(LpspiError::FrameSize));
+        return RunResult::unmoved(driver, Ending::Err(LpspiError::FrameSize));
     };
     let order = driver.bit_order();
     let n = Width::U32.word_count(total);

@@ -3,14 +3,13 @@ ghost use mathlib.Core.Path.{_≡_};
 ghost use Rattle.transfers.specs.Transfers.{transferLeft, readNoWrite};
 use crate::entry::WORDS;
 use crate::entry::result;
-use crate::entry::unmoved;
-use machine::access::Ending;
-use machine::driver::Lpspi;
 use runs::drive::Frame;
 use runs::log::limits;
 use runs::result::RunResult;
 use runs::transfer::run_words;
 use runs::turns::Count;
+use sequences::access::Ending;
+use sequences::driver::Lpspi;
 use words::buffer::unpack_words_u8;
 use words::buffer::unpack_words_u16;
 use words::buffer::unpack_words_u32;
@@ -29,14 +28,14 @@ pub fn read_no_write_u8(
     ensures { λ r. ⌜ transferLeft r (now (log .exit)) (now (buf .exit)) ≡ readNoWrite 8 driver (now (buf .entry)) budget (now (script .entry)) (now (log .entry)) ⌝ }
 {
     if limits(budget, log) {
-        return unmoved(driver, Ending::Limits);
+        return RunResult::unmoved(driver, Ending::Limits);
     }
     let total = buf.len();
     if total == 0 {
-        return unmoved(driver, Ending::Ok);
+        return RunResult::unmoved(driver, Ending::Ok);
     }
     let TransactionResult::Ok(transaction) = Transaction::new_u8s(buf) else {
-        return unmoved(driver, Ending::Err(LpspiError::FrameSize));
+        return RunResult::unmoved(driver, Ending::Err(LpspiError::FrameSize));
     };
     let order = driver.bit_order();
     let n = Width::U8.word_count(total);
@@ -80,14 +79,14 @@ pub fn read_no_write_u16(
     ensures { λ r. ⌜ transferLeft r (now (log .exit)) (now (buf .exit)) ≡ readNoWrite 16 driver (now (buf .entry)) budget (now (script .entry)) (now (log .entry)) ⌝ }
 {
     if limits(budget, log) {
-        return unmoved(driver, Ending::Limits);
+        return RunResult::unmoved(driver, Ending::Limits);
     }
     let total = buf.len();
     if total == 0 {
-        return unmoved(driver, Ending::Ok);
+        return RunResult::unmoved(driver, Ending::Ok);
     }
     let TransactionResult::Ok(transaction) = Transaction::new_u16s(buf) else {
-        return unmoved(driver, Ending::Err(LpspiError::FrameSize));
+        return RunResult::unmoved(driver, Ending::Err(LpspiError::FrameSize));
     };
     let order = driver.bit_order();
     let n = Width::U16.word_count(total);
@@ -131,14 +130,14 @@ pub fn read_no_write_u32(
     ensures { λ r. ⌜ transferLeft r (now (log .exit)) (now (buf .exit)) ≡ readNoWrite 32 driver (now (buf .entry)) budget (now (script .entry)) (now (log .entry)) ⌝ }
 {
     if limits(budget, log) {
-        return unmoved(driver, Ending::Limits);
+        return RunResult::unmoved(driver, Ending::Limits);
     }
     let total = buf.len();
     if total == 0 {
-        return unmoved(driver, Ending::Ok);
+        return RunResult::unmoved(driver, Ending::Ok);
     }
     let TransactionResult::Ok(transaction) = Transaction::new_u32s(buf) else {
-        return unmoved(driver, Ending::Err(LpspiError::FrameSize));
+        return RunResult::unmoved(driver, Ending::Err(LpspiError::FrameSize));
     };
     let order = driver.bit_order();
     let n = Width::U32.word_count(total);

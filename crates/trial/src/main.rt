@@ -5,8 +5,8 @@
 //   tag 7        the antenna's bytes
 //   gggg aaaa c  events: g and a steps of gate and antenna, G and A busy ones, c a clock, t and r noise at the gate (T, R), T and R at the antenna
 //
-// A separate read buffer is as long as the longer line and starts as zeros. Spaces between events do not count. At most 512 bytes a board and
-// 65,536 letters of events. A trial that is not so prints `bad`. docs/BUS.md walks through it.
+// A separate read buffer is as long as the longer line and starts as zeros. A space between events is none. At most 512 bytes a board and 65,536
+// letters and spaces of events. A trial that is not so prints `bad`. Lines missing at the end count as empty. docs/BUS.md walks through it.
 ghost use Prim.Native.Nat.{_<_, _≤_, max};
 ghost use mathlib.Core.Path.{_≡_};
 ghost use lib.ListN.{length};
@@ -16,10 +16,8 @@ use bus::trial::EndState;
 use bus::trial::trial;
 use libc::STDIN_FILENO;
 use libc::STDOUT_FILENO;
-use machine::access::Access;
-use machine::driver::Lpspi;
-use machine::flush::Flush;
-use machine::transfer::Transfer;
+use sequences::access::Access;
+use sequences::driver::Lpspi;
 use words::order::BitOrder;
 use words::width::Width;
 
@@ -70,11 +68,9 @@ fn flag(name: &[u8], on: bool) {
 }
 
 fn queue(fifo: Fifo) {
-    let words = fifo.words;
-    for i in 0..16 {
-        if i < fifo.count {
-            word(words[i]);
-        }
+    let n = fifo.len();
+    for i in 0..n {
+        word(fifo.word(i));
     }
 }
 

@@ -4,7 +4,7 @@
 use Prim.Native.Nat.{ℕ, _+_, _*_, _-_, _/_, _<_, _≤_}
 use mathlib.Core.List.{List, [], _∷_}
 use mathlib.Core.Logic.{_↔_}
-use mathlib.Core.Path.{_≡_, ap, sym, _∙_}
+use mathlib.Core.Path.{_≡_, _∙_}
 use native.Mathlib.Nat.{mod-eq-of-lt, mul-le-mul-left, le-trans, div-lt-iff-lt-mul, lt-div-mul-add, mul-comm, mul-assoc, mul-add, mul-left-comm}
 use native.Mathlib.Omega.{arith}
 use Rattle.manual.specs.declared.Ccr.the-variants.{SCKDIV, DBT, PCSSCK, SCKPCS}

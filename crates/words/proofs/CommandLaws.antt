@@ -2,7 +2,7 @@
 -- Assumes nothing.
 use Prim.Native.Nat.{ℕ, _-_, _%_, _<_, _≤_}
 use mathlib.Core.Bool.{Bool, true, false, cond, not, _&&_}
-use mathlib.Core.Path.{_≡_, refl, sym, ap, _∙_}
+use mathlib.Core.Path.{_≡_, refl, ap, _∙_}
 use native.Mathlib.Omega.{arith}
 use borrow.Author.Tests.{leb-true, lt-leb}
 use lib.Dec.{leb, eqb, lit<}
@@ -10,8 +10,9 @@ use mathlib.Core.List.{List, [], _∷_}
 use native.Mathlib.Nat.{mod-eq-of-lt}
 use Rattle.manual.specs.declared.Tcr.the-variants.{FRAMESZ, TXMSK, RXMSK, CONTC, CONT, BYSW, LSBF, PCS, CPHA, CPOL}
 use Rattle.manual.specs.declared.Field.the-variants.{Tcr}
+use Rattle.manual.specs.Bits.{getBits}
 use Rattle.manual.specs.Manual.{readField, setField, Setting}
-use Rattle.manual.proofs.ManualLaws.{read-all}
+use Rattle.manual.proofs.ManualLaws.{read-all, kept-outside}
 use Rattle.words.specs.declared.order.BitOrder.{BitOrder}
 use Rattle.words.specs.declared.order.BitOrder.the-variants.{Msb, Lsb}
 use Rattle.words.specs.declared.mode.Polarity.{Polarity}
@@ -27,7 +28,7 @@ use Rattle.words.specs.declared.transaction.LpspiError.the-variants.{Fra
 use Rattle.words.specs.declared.transaction.Transaction.{Transaction}
 use Rattle.words.specs.declared.transaction.TransactionResult.the-variants.{Ok, Err}
 use Rattle.words.specs.Answer.{Answer, ok, refused, frameSizeNumber}
-use Rattle.words.specs.Command.{frameAccepted, framed, errorNumber, commandAnswer, flagOf, lsbfOf, pcsOf, cphaOf, cpolOf, commanded, busWord, Settings, settingsWord}
+use Rattle.words.specs.Command.{frameAccepted, framed, errorNumber, commandAnswer, flagOf, lsbfOf, pcsOf, cphaOf, cpolOf, commanded, setFlag, busWord, Settings, settingsWord}
 
 all-three : (a b c : Bool) → (a && b && c) ≡ true → (a ≡ true) × (b ≡ true)
 all-three true true c h = (refl, refl)
@@ -71,7 +72,7 @@ refused-size f e h = by-test (frameAccepted f) (some e) (ap (λ (a : Answer). a 
     by-test true h e = absurd (omega arith)
     by-test false h e = refl
 
--- the ten fields of TCR in a word: the settings, and f bits a frame
+-- the ten fields of TCR in a word: the settings, and f bits a frame; the bits between them, 17..12 and 29..26, are 0
 pub record CommandReads (w : ℕ) (s : Settings) (f : ℕ) : Type 0 where
   pub frameSize : readField (Tcr FRAMESZ) w ≡ f - 1
   pub transmitMask : readField (Tcr TXMSK) w ≡ flagOf (s .transmitMask)
@@ -83,6 +84,8 @@ pub record CommandReads (w : ℕ) (s : Settings) (f : ℕ) : Type 0 where
   pub pcs : readField (Tcr PCS) w ≡ pcsOf (s .pcs)
   pub phase : readField (Tcr CPHA) w ≡ cphaOf (s .mode .phase)
   pub polarity : readField (Tcr CPOL) w ≡ cpolOf (s .mode .polarity)
+  pub below : getBits 12 6 w ≡ 0
+  pub above : getBits 26 4 w ≡ 0
 
 flag-lt : (b : Bool) → flagOf b % 2 ≡ flagOf b
 flag-lt true = refl
@@ -111,13 +114,13 @@ abbrev bus : BitOrder → Mode → Pcs → ℕ → List Setting
 bus o m p f =
     (Tcr PCS, pcsOf p) ∷ (Tcr CPOL, cpolOf (m .polarity)) ∷ (Tcr CPHA, cphaOf (m .phase)) ∷ (Tcr LSBF, lsbfOf o) ∷ (Tcr FRAMESZ, f - 1) ∷ []
 
--- a driver's settings: no flag set
-abbrev pub plain : BitOrder → Mode → Pcs → Settings
-plain o m p = record {
+-- a driver's settings, and the masks of a transfer: RXMSK where it only sends, TXMSK where it only receives
+abbrev pub driven : BitOrder → Mode → Pcs → Bool → Bool → Settings
+driven o m p receiveMask transmitMask = record {
   byteSwap = false;
   order = o;
-  receiveMask = false;
-  transmitMask = false;
+  receiveMask = receiveMask;
+  transmitMask = transmitMask;
   continuous = false;
   continuing = false;
   mode = m;
@@ -126,9 +129,12 @@ plain o m p = record {
 
 -- READ BACK: every field of an accepted command
 module _ (f : ℕ) (h : frameAccepted f ≡ true) where
+  size-lt : (f - 1) % 4096 ≡ f - 1
+  size-lt = mod-eq-of-lt (let b = accepted-between f h in omega arith)
+
   pub command-reads : (s : Settings) → CommandReads (commanded (settingsWord s) f .value) s f
   command-reads s = rw h (record {
-    frameSize = read-all (Tcr FRAMESZ) all 0 tt ∙ mod-eq-of-lt (let b = accepted-between f h in omega arith);
+    frameSize = read-all (Tcr FRAMESZ) all 0 tt ∙ size-lt;
     transmitMask = read-all (Tcr TXMSK) all 0 tt ∙ flag-lt (s .transmitMask);
     receiveMask = read-all (Tcr RXMSK) all 0 tt ∙ flag-lt (s .receiveMask);
     continuing = read-all (Tcr CONTC) all 0 tt ∙ flag-lt (s .continuing);
@@ -138,23 +144,62 @@ module _ (f : ℕ) (h : frameAccepted f ≡ true) where
     pcs = read-all (Tcr PCS) all 0 tt ∙ pcs-lt (s .pcs);
     phase = read-all (Tcr CPHA) all 0 tt ∙ cpha-lt (s .mode .phase);
     polarity = read-all (Tcr CPOL) all 0 tt ∙ cpol-lt (s .mode .polarity);
+    below = kept-outside 12 6 all 0 tt;
+    above = kept-outside 26 4 all 0 tt;
   })
     where
       all : List Setting
       all =
           (Tcr CONTC, flagOf (s .continuing)) ∷ (Tcr CONT, flagOf (s .continuous)) ∷ (Tcr TXMSK, flagOf (s .transmitMask)) ∷ (Tcr RXMSK, flagOf (s .receiveMask)) ∷ (Tcr BYSW, flagOf (s .byteSwap)) ∷ bus (s .order) (s .mode) (s .pcs) f
 
-  -- and of a driver's command: what it does not set is 0
-  pub bus-reads : (o : BitOrder) (m : Mode) (p : Pcs) → CommandReads (commanded (busWord o m p) f .value) (plain o m p) f
-  bus-reads o m p = rw h (record {
-    frameSize = read-all (Tcr FRAMESZ) (bus o m p f) 0 tt ∙ mod-eq-of-lt (let b = accepted-between f h in omega arith);
-    transmitMask = read-all (Tcr TXMSK) (bus o m p f) 0 tt;
-    receiveMask = read-all (Tcr RXMSK) (bus o m p f) 0 tt;
-    continuing = read-all (Tcr CONTC) (bus o m p f) 0 tt;
-    continuous = read-all (Tcr CONT) (bus o m p f) 0 tt;
-    byteSwap = read-all (Tcr BYSW) (bus o m p f) 0 tt;
-    order = read-all (Tcr LSBF) (bus o m p f) 0 tt ∙ lsbf-lt o;
-    pcs = read-all (Tcr PCS) (bus o m p f) 0 tt ∙ pcs-lt p;
-    phase = read-all (Tcr CPHA) (bus o m p f) 0 tt ∙ cpha-lt (m .phase);
-    polarity = read-all (Tcr CPOL) (bus o m p f) 0 tt ∙ cpol-lt (m .polarity);
-  })
+  module _ (o : BitOrder) (m : Mode) (p : Pcs) where
+    -- of a driver's command: what it does not set is 0
+    pub bus-reads : CommandReads (commanded (busWord o m p) f .value) (driven o m p false false) f
+    bus-reads = rw h (record {
+      frameSize = read-all (Tcr FRAMESZ) (bus o m p f) 0 tt ∙ size-lt;
+      transmitMask = read-all (Tcr TXMSK) (bus o m p f) 0 tt;
+      receiveMask = read-all (Tcr RXMSK) (bus o m p f) 0 tt;
+      continuing = read-all (Tcr CONTC) (bus o m p f) 0 tt;
+      continuous = read-all (Tcr CONT) (bus o m p f) 0 tt;
+      byteSwap = read-all (Tcr BYSW) (bus o m p f) 0 tt;
+      order = read-all (Tcr LSBF) (bus o m p f) 0 tt ∙ lsbf-lt o;
+      pcs = read-all (Tcr PCS) (bus o m p f) 0 tt ∙ pcs-lt p;
+      phase = read-all (Tcr CPHA) (bus o m p f) 0 tt ∙ cpha-lt (m .phase);
+      polarity = read-all (Tcr CPOL) (bus o m p f) 0 tt ∙ cpol-lt (m .polarity);
+      below = kept-outside 12 6 (bus o m p f) 0 tt;
+      above = kept-outside 26 4 (bus o m p f) 0 tt;
+    })
+
+    -- of `write_no_read`
+    pub write-reads : CommandReads (commanded (λ w. setFlag RXMSK true (busWord o m p w)) f .value) (driven o m p true false) f
+    write-reads = rw h (record {
+      frameSize = read-all (Tcr FRAMESZ) ((Tcr RXMSK, 1) ∷ bus o m p f) 0 tt ∙ size-lt;
+      transmitMask = read-all (Tcr TXMSK) ((Tcr RXMSK, 1) ∷ bus o m p f) 0 tt;
+      receiveMask = read-all (Tcr RXMSK) ((Tcr RXMSK, 1) ∷ bus o m p f) 0 tt;
+      continuing = read-all (Tcr CONTC) ((Tcr RXMSK, 1) ∷ bus o m p f) 0 tt;
+      continuous = read-all (Tcr CONT) ((Tcr RXMSK, 1) ∷ bus o m p f) 0 tt;
+      byteSwap = read-all (Tcr BYSW) ((Tcr RXMSK, 1) ∷ bus o m p f) 0 tt;
+      order = read-all (Tcr LSBF) ((Tcr RXMSK, 1) ∷ bus o m p f) 0 tt ∙ lsbf-lt o;
+      pcs = read-all (Tcr PCS) ((Tcr RXMSK, 1) ∷ bus o m p f) 0 tt ∙ pcs-lt p;
+      phase = read-all (Tcr CPHA) ((Tcr RXMSK, 1) ∷ bus o m p f) 0 tt ∙ cpha-lt (m .phase);
+      polarity = read-all (Tcr CPOL) ((Tcr RXMSK, 1) ∷ bus o m p f) 0 tt ∙ cpol-lt (m .polarity);
+      below = kept-outside 12 6 ((Tcr RXMSK, 1) ∷ bus o m p f) 0 tt;
+      above = kept-outside 26 4 ((Tcr RXMSK, 1) ∷ bus o m p f) 0 tt;
+    })
+
+    -- of `read_no_write`
+    pub read-reads : CommandReads (commanded (λ w. setFlag TXMSK true (busWord o m p w)) f .value) (driven o m p false true) f
+    read-reads = rw h (record {
+      frameSize = read-all (Tcr FRAMESZ) ((Tcr TXMSK, 1) ∷ bus o m p f) 0 tt ∙ size-lt;
+      transmitMask = read-all (Tcr TXMSK) ((Tcr TXMSK, 1) ∷ bus o m p f) 0 tt;
+      receiveMask = read-all (Tcr RXMSK) ((Tcr TXMSK, 1) ∷ bus o m p f) 0 tt;
+      continuing = read-all (Tcr CONTC) ((Tcr TXMSK, 1) ∷ bus o m p f) 0 tt;
+      continuous = read-all (Tcr CONT) ((Tcr TXMSK, 1) ∷ bus o m p f) 0 tt;
+      byteSwap = read-all (Tcr BYSW) ((Tcr TXMSK, 1) ∷ bus o m p f) 0 tt;
+      order = read-all (Tcr LSBF) ((Tcr TXMSK, 1) ∷ bus o m p f) 0 tt ∙ lsbf-lt o;
+      pcs = read-all (Tcr PCS) ((Tcr TXMSK, 1) ∷ bus o m p f) 0 tt ∙ pcs-lt p;
+      phase = read-all (Tcr CPHA) ((Tcr TXMSK, 1) ∷ bus o m p f) 0 tt ∙ cpha-lt (m .phase);
+      polarity = read-all (Tcr CPOL) ((Tcr TXMSK, 1) ∷ bus o m p f) 0 tt ∙ cpol-lt (m .polarity);
+      below = kept-outside 12 6 ((Tcr TXMSK, 1) ∷ bus o m p f) 0 tt;
+      above = kept-outside 26 4 ((Tcr TXMSK, 1) ∷ bus o m p f) 0 tt;
+    })

@@ -31,18 +31,22 @@ frameAccepted f = leb 8 f && leb f 4096 && not (eqb (f % 32) 1)
 abbrev pub commanded : (ℕ → ℕ) → ℕ → Answer
 commanded set f = cond (frameAccepted f) (ok (set (setField (Tcr FRAMESZ) (f - 1) 0))) (refused frameSizeNumber)
 
+-- `new`: every other field is 0
 abbrev pub framed : ℕ → Answer
 framed f = commanded (λ w. w) f
 
+-- 1 FrameSize, 2 Fifo(Rx), 3 Fifo(Tx)
 abbrev pub errorNumber : LpspiError → ℕ
 errorNumber FrameSize = frameSizeNumber
 errorNumber (Fifo Rx) = receiveErrorNumber
 errorNumber (Fifo Tx) = transmitErrorNumber
 
+-- a command's word with 0, or the error's number
 abbrev pub commandAnswer : TransactionResult → Answer
 commandAnswer (Ok t) = ok (t .0)
 commandAnswer (Err e) = refused (errorNumber e)
 
+-- the values of the fields: a flag; LSBF; PCS; CPOL; CPHA
 abbrev pub flagOf : Bool → ℕ
 flagOf true = 1
 flagOf false = 0
@@ -67,7 +71,7 @@ abbrev pub cphaOf : Phase → ℕ
 cphaOf CaptureOnFirstTransition = 0
 cphaOf CaptureOnSecondTransition = 1
 
--- what each setter makes of a command's word: its own field, and nothing else
+-- "Setters of `Transaction` change .. only their own field": what each makes of a command's word
 abbrev pub setFlag : TcrField → Bool → ℕ → ℕ
 setFlag f on w = setField (Tcr f) (flagOf on) w
 

@@ -1,4 +1,4 @@
--- The bits of an element of each width.
+-- The widths 8, 16 and 32 (document 01, Words): the bits of an element of each.
 -- Assumes nothing.
 use Prim.Native.Nat.{ℕ}
 use Rattle.words.specs.declared.width.Width.{Width}

@@ -1,7 +1,7 @@
 // The clock of a transfer, as the register CCR has it.
 ghost use mathlib.Core.Path.{_≡_};
 ghost use Prim.Native.Nat.{_<_, _≤_};
-ghost use Rattle.words.specs.Clock.{halfDivider, ClockAnswer, clockAnswer, clocked, clockWord};
+ghost use Rattle.words.specs.Clock.{halfDivider, clockAnswer, clocked, clockWord};
 use manual::Ccr;
 use manual::Field;
 

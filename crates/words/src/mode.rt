@@ -1,12 +1,40 @@
 // The SPI mode and the chip select of a command.
+ghost use mathlib.Core.Path.{_≡_};
+ghost use Prim.Native.Nat.{_≤_};
+ghost use Rattle.words.specs.Command.{cpolOf, cphaOf, pcsOf};
+
 pub enum Polarity {
     IdleLow,
     IdleHigh,
 }
 
+impl Polarity {
+    // The field CPOL.
+    pub fn cpol(self) -> u32
+        ensures { λ r. ⌜ (r ≡ cpolOf self) × (r ≤ 1) ⌝ }
+    {
+        match self {
+            Polarity::IdleLow => 0,
+            Polarity::IdleHigh => 1,
+        }
+    }
+}
+
 pub enum Phase {
     CaptureOnFirstTransition,
     CaptureOnSecondTransition,
+}
+
+impl Phase {
+    // The field CPHA.
+    pub fn cpha(self) -> u32
+        ensures { λ r. ⌜ (r ≡ cphaOf self) × (r ≤ 1) ⌝ }
+    {
+        match self {
+            Phase::CaptureOnFirstTransition => 0,
+            Phase::CaptureOnSecondTransition => 1,
+        }
+    }
 }
 
 pub struct Mode {
@@ -40,4 +68,18 @@ pub enum Pcs {
     Pcs1,
     Pcs2,
     Pcs3,
+}
+
+impl Pcs {
+    // The field PCS.
+    pub fn number(self) -> u32
+        ensures { λ r. ⌜ (r ≡ pcsOf self) × (r ≤ 3) ⌝ }
+    {
+        match self {
+            Pcs::Pcs0 => 0,
+            Pcs::Pcs1 => 1,
+            Pcs::Pcs2 => 2,
+            Pcs::Pcs3 => 3,
+        }
+    }
 }

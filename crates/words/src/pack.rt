@@ -2,7 +2,7 @@
 ghost use mathlib.Core.Path.{_≡_};
 ghost use Prim.Native.Nat.{_+_, _*_, _^_, _<_, _≤_};
 ghost use mathlib.Core.List.{[], _∷_};
-ghost use lib.ListN.{length, getD, drop};
+ghost use lib.ListN.{getD, drop};
 ghost use Rattle.words.specs.Answer.{packAnswer};
 ghost use Rattle.words.specs.Word.{pack, packed};
 ghost use Rattle.words.specs.Buffer.{dummy, filled};

@@ -1,14 +1,14 @@
 // The command of a transfer, as the register TCR has it.
 ghost use mathlib.Core.Path.{_≡_};
-ghost use Prim.Native.Nat.{_*_, _≤_};
+ghost use Prim.Native.Nat.{_*_};
 ghost use lib.ListN.{length};
-ghost use Rattle.words.specs.Command.{flagOf, lsbfOf, pcsOf, cpolOf, cphaOf, setFlag, setOrder, setMode, setPcs, frameAccepted, commandAnswer, framed};
+ghost use Rattle.words.specs.Command.{flagOf, setFlag, setOrder, setMode, setPcs, frameAccepted, commandAnswer, framed};
+ghost use Rattle.words.specs.Width.{widthBits};
 ghost use Rattle.manual.specs.declared.Tcr.the-variants.{BYSW, RXMSK, TXMSK, CONT, CONTC};
 use super::mode::Mode;
 use super::mode::Pcs;
-use super::mode::Phase;
-use super::mode::Polarity;
 use super::order::BitOrder;
+use super::width::Width;
 use manual::Field;
 use manual::Tcr;
 
@@ -34,49 +34,11 @@ pub enum TransactionResult {
 
 pub struct Transaction(u32);
 
-// The values of the fields.
-fn flag(on: bool) -> u32
+// The field of a flag.
+pub fn flag(on: bool) -> u32
     ensures { λ r. ⌜ r ≡ flagOf on ⌝ }
 {
     if on { 1 } else { 0 }
-}
-
-fn lsbf(order: BitOrder) -> u32
-    ensures { λ r. ⌜ r ≡ lsbfOf order ⌝ }
-{
-    match order {
-        BitOrder::Msb => 0,
-        BitOrder::Lsb => 1,
-    }
-}
-
-fn cpol(polarity: Polarity) -> u32
-    ensures { λ r. ⌜ r ≡ cpolOf polarity ⌝ }
-{
-    match polarity {
-        Polarity::IdleLow => 0,
-        Polarity::IdleHigh => 1,
-    }
-}
-
-fn cpha(phase: Phase) -> u32
-    ensures { λ r. ⌜ r ≡ cphaOf phase ⌝ }
-{
-    match phase {
-        Phase::CaptureOnFirstTransition => 0,
-        Phase::CaptureOnSecondTransition => 1,
-    }
-}
-
-fn select(pcs: Pcs) -> u32
-    ensures { λ r. ⌜ r ≡ pcsOf pcs ⌝ }
-{
-    match pcs {
-        Pcs::Pcs0 => 0,
-        Pcs::Pcs1 => 1,
-        Pcs::Pcs2 => 2,
-        Pcs::Pcs3 => 3,
-    }
 }
 
 impl Transaction {
@@ -85,6 +47,9 @@ impl Transaction {
     pub const MAX_FRAME_SIZE: u16 = 1 << 12;
 
     pub const WORD_SIZE: u16 = 32;
+
+    // The elements of the longest frame, at width 8.
+    pub const MAX_ELEMENTS: usize = 512;
 
     fn frame_size_valid(frame_size: u16) -> bool
         ensures { λ r. ⌜ r ≡ frameAccepted «frame_size» ⌝ }
@@ -110,32 +75,31 @@ impl Transaction {
     }
 
     // The command of a frame of `len` elements.
-    fn new_words(bits: u16, len: usize) -> TransactionResult
-        requires { ⌜ (8 ≤ bits) × (bits ≤ 32) ⌝ }
-        ensures { λ r. ⌜ commandAnswer r ≡ framed (bits * len) ⌝ }
+    pub fn new_words(width: Width, len: usize) -> TransactionResult
+        ensures { λ r. ⌜ commandAnswer r ≡ framed (widthBits width * len) ⌝ }
     {
-        if 512 < len {
+        if Self::MAX_ELEMENTS < len {
             return TransactionResult::Err(LpspiError::FrameSize);
         }
-        Self::new(bits * (len as u16))
+        Self::new(width.bits() * (len as u16))
     }
 
     pub fn new_u8s(data: &[u8]) -> TransactionResult
         ensures { λ r. ⌜ commandAnswer r ≡ framed (8 * length (now («data» .entry))) ⌝ }
     {
-        Self::new_words(8, data.len())
+        Self::new_words(Width::U8, data.len())
     }
 
     pub fn new_u16s(data: &[u16]) -> TransactionResult
         ensures { λ r. ⌜ commandAnswer r ≡ framed (16 * length (now («data» .entry))) ⌝ }
     {
-        Self::new_words(16, data.len())
+        Self::new_words(Width::U16, data.len())
     }
 
     pub fn new_u32s(data: &[u32]) -> TransactionResult
         ensures { λ r. ⌜ commandAnswer r ≡ framed (32 * length (now («data» .entry))) ⌝ }
     {
-        Self::new_words(32, data.len())
+        Self::new_words(Width::U32, data.len())
     }
 
     // The word of the register TCR.
@@ -155,7 +119,7 @@ impl Transaction {
     pub fn with_bit_order(self, bit_order: BitOrder) -> Self
         ensures { λ r. ⌜ r .0 ≡ setOrder «bit_order» (self .0) ⌝ }
     {
-        Self(Field::Tcr(Tcr::LSBF).set(lsbf(bit_order), self.0))
+        Self(Field::Tcr(Tcr::LSBF).set(bit_order.lsbf(), self.0))
     }
 
     // Discard received data.
@@ -191,14 +155,14 @@ impl Transaction {
     {
         let polarity = mode.polarity;
         let phase = mode.phase;
-        let word = Field::Tcr(Tcr::CPHA).set(cpha(phase), self.0);
-        Self(Field::Tcr(Tcr::CPOL).set(cpol(polarity), word))
+        let word = Field::Tcr(Tcr::CPHA).set(phase.cpha(), self.0);
+        Self(Field::Tcr(Tcr::CPOL).set(polarity.cpol(), word))
     }
 
     pub fn with_pcs(self, pcs: Pcs) -> Self
         ensures { λ r. ⌜ r .0 ≡ setPcs pcs (self .0) ⌝ }
     {
-        Self(Field::Tcr(Tcr::PCS).set(select(pcs), self.0))
+        Self(Field::Tcr(Tcr::PCS).set(pcs.number(), self.0))
     }
 
     fn with_flag(self, field: Tcr, on: bool) -> Self

@@ -1,7 +1,6 @@
 // One FIFO word to elements.
 ghost use mathlib.Core.Path.{_≡_};
 ghost use Prim.Native.Nat.{_≤_};
-ghost use lib.ListN.{length};
 ghost use Rattle.words.specs.Answer.{unpackNumber};
 ghost use Rattle.words.specs.Word.{unpack, laid, unpackedNumber, unpacked};
 use super::order::BitOrder;

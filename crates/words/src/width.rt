@@ -1,5 +1,6 @@
 // The three widths of an element: what the Rust has as the trait `Word`.
 ghost use mathlib.Core.Path.{_≡_};
+ghost use Prim.Native.Nat.{_≤_};
 ghost use Rattle.words.specs.Width.{widthBits};
 ghost use Rattle.words.specs.Word.{perWord};
 ghost use Rattle.words.specs.Buffer.{dummy, wordCount};
@@ -11,6 +12,17 @@ pub enum Width {
 }
 
 impl Width {
+    // The bits of an element.
+    pub fn bits(self) -> u16
+        ensures { λ r. ⌜ (r ≡ widthBits self) × (8 ≤ r) × (r ≤ 32) ⌝ }
+    {
+        match self {
+            Width::U8 => 8,
+            Width::U16 => 16,
+            Width::U32 => 32,
+        }
+    }
+
     // The elements that fit a FIFO word.
     pub fn per_word(self) -> usize
         ensures { λ r. ⌜ r ≡ perWord (widthBits self) ⌝ }

@@ -135,6 +135,13 @@ pub enum Call<'a> {
         pcs: u8,
         active_high: bool,
     },
+    /// `disabled` with a closure that sets nothing.
+    NoSetting,
+    /// `disabled` with a closure that sets both.
+    SetSamplePointAndPeripheral {
+        delayed: bool,
+        enable: bool,
+    },
 }
 
 /// The words in each FIFO and its capacity, as the driver takes it.

@@ -65,6 +65,11 @@ pub(crate) fn call(spi: &mut Lpspi, call: Call) -> Result<Value, Failure> {
         Call::SetPeripheralEnable(enable) => spi.disabled(|spi| spi.set_peripheral_enable(enable)),
         Call::SetChipSelectPolarity { pcs, active_high } => spi
             .disabled(|spi| spi.set_chip_select_polarity(chip_select(pcs), polarity(active_high))),
+        Call::NoSetting => spi.disabled(|_| ()),
+        Call::SetSamplePointAndPeripheral { delayed, enable } => spi.disabled(|spi| {
+            spi.set_sample_point(sample_point(delayed));
+            spi.set_peripheral_enable(enable);
+        }),
         Call::Watermark(direction) => return Ok(Value::Level(spi.watermark(side(direction)))),
         Call::SetWatermark(direction, level) => {
             return Ok(Value::Level(spi.set_watermark(side(direction), level)));

@@ -42,9 +42,13 @@ pub use call::{
     Transfer, Value,
 };
 #[cfg(original)]
-pub use lpspi::words::{clock_word, command_word, pack_words, unpack_words};
+pub use lpspi::words::{
+    clock_word, command_word, pack_word, pack_words, unpack_word, unpack_words,
+};
 #[cfg(not(original))]
-pub use missing::{clock_word, command_word, pack_words, run, unpack_words};
+pub use missing::{
+    clock_word, command_word, pack_word, pack_words, run, unpack_word, unpack_words,
+};
 #[cfg(original)]
 pub use run::run;
 

@@ -26,3 +26,11 @@ pub fn pack_words(_: bool, _: &[u8], _: usize, _: &mut [u32]) {
 pub fn unpack_words(_: bool, _: &[u32], _: usize, _: &mut [u8]) {
     missing()
 }
+
+pub fn pack_word(_: u32, _: bool, _: &[u32]) -> (u32, usize) {
+    missing()
+}
+
+pub fn unpack_word(_: u32, _: bool, _: u32, _: usize) -> Vec<u32> {
+    missing()
+}

@@ -4,7 +4,7 @@
 //! Nothing here is inlined: the benchmark counts one call on either side.
 
 use super::calls::{bit_order, chip_select, mode};
-use super::{ReceiveBuffer, ReceiveData, Transaction, TransmitBuffer, TransmitData};
+use super::{ReceiveBuffer, ReceiveData, Transaction, TransmitBuffer, TransmitData, Word};
 use super::{compute_spi_clock, per_word};
 use crate::call::{Command, Failure};
 
@@ -51,4 +51,26 @@ pub fn unpack_words(lsb: bool, words: &[u32], total: usize, bytes: &mut [u8]) {
     for word in words.iter().take(total.div_ceil(per_word::<u8>())) {
         receive.next_word(order, *word);
     }
+}
+
+/// One FIFO word of elements of 8, 16 or 32 bits, and how many of them it took.
+pub fn pack_word(bits: u32, lsb: bool, elements: &[u32]) -> (u32, usize) {
+    let (order, mut left) = (bit_order(lsb), elements.iter());
+    let word = match bits {
+        8 => u8::pack_word(order, || left.next().map(|element| *element as u8)),
+        16 => u16::pack_word(order, || left.next().map(|element| *element as u16)),
+        _ => u32::pack_word(order, || left.next().copied()),
+    };
+    (word, elements.len() - left.len())
+}
+
+/// The elements of 8, 16 or 32 bits of a FIFO word with so many valid bytes.
+pub fn unpack_word(bits: u32, lsb: bool, word: u32, valid_bytes: usize) -> Vec<u32> {
+    let (order, mut elements) = (bit_order(lsb), vec![]);
+    match bits {
+        8 => u8::unpack_word(word, order, valid_bytes, |byte| elements.push(byte.into())),
+        16 => u16::unpack_word(word, order, valid_bytes, |half| elements.push(half.into())),
+        _ => u32::unpack_word(word, order, valid_bytes, |word| elements.push(word)),
+    }
+    elements
 }

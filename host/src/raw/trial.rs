@@ -4,7 +4,7 @@ use crate::Element;
 
 /// Lets events happen to a gate and an antenna. `in_place` has a bit for each, the
 /// gate's lowest. The buffers are read and written ones; the ends' states go to the
-/// front of `state`.
+/// front of `state`. At 9 all is as found.
 #[inline]
 pub fn trial<W: Element>(
     drivers: [u32; 2],

@@ -133,8 +133,11 @@ impl<W: Both> Left<W> {
 
     fn by_original(bus: &mut Bus<W>) -> Self {
         let mut state = Self::FOUND.to_vec();
-        let ends = SIDES.map(|side| bus.end(side).state());
-        state[..2 * STATE].copy_from_slice(ends.as_flattened());
+        // At 9 all is as found.
+        if bus.number() != 9 {
+            let ends = SIDES.map(|side| bus.end(side).state());
+            state[..2 * STATE].copy_from_slice(ends.as_flattened());
+        }
         Self {
             number: bus.number(),
             state,

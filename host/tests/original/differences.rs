@@ -1,7 +1,9 @@
 //! What docs/DIFFERENCES.md says of the Rust, at the inputs given there.
 
 use crate::{listed, original_is_here};
+use original::{pack_word, unpack_word};
 use original::{Call, Direction, Driver, Element, Failure, Transfer, Value};
+use std::panic::catch_unwind;
 
 const START: Driver = Driver {
     lsb: false,
@@ -28,7 +30,9 @@ fn clocks() {
     }
     let written = |ccr: &str| (Ok(Value::Unit), format!("W 40 {ccr}"));
     assert_eq!(clock(257, 1), written("7F7F7FFE"));
-    assert_eq!(clock(2, 1), written("02020204"));
+    // Slower than the manual allows: SCKDIV is at least 4, and even.
+    assert_eq!(clock(1, 1), written("02020204"));
+    assert_eq!(clock(7, 1), written("03030306"));
 
     // The next access is then the guard's, as it unwinds.
     let panicked = (Err(Failure::Panicked), "R 10 00000000".into());
@@ -43,23 +47,47 @@ fn exponents_over_4() {
     if !original_is_here() {
         return;
     }
-    let call = Call::SetWatermark(Direction::Tx, 16);
-    let (outcome, accesses) = listed(call, START, 50, &[5, 0]);
-    assert_eq!(outcome.result, Ok(Value::Level(16)));
-    assert_eq!(accesses[2], "W 58 00000000");
+    let set = |exponent, level| {
+        let call = Call::SetWatermark(Direction::Tx, level);
+        let (outcome, accesses) = listed(call, START, 50, &[exponent, 0]);
+        (outcome.result, accesses[1..].join(", "))
+    };
+    let written = |level, fcr: &str| {
+        (
+            Ok(Value::Level(level)),
+            format!("R 58 00000000, W 58 {fcr}"),
+        )
+    };
+    assert_eq!(set(5, 0), written(0, "00000000"));
+    assert_eq!(set(5, 16), written(16, "00000000"));
+    for (exponent, level) in [(5, 31), (6, 63), (7, 127)] {
+        assert_eq!(set(exponent, 200), written(level, "0000000F"));
+    }
+    // A build without overflow checks shifts by the exponent modulo 8.
+    let panicked = (Err(Failure::Panicked), String::new());
+    assert!([panicked, written(0, "00000000")].contains(&set(8, 200)));
 
-    let (outcome, accesses) = listed(Call::Init, START, 50, &[0, 0, 0, 0, 5]);
-    assert_eq!(outcome.result, Ok(Value::Unit));
-    assert_eq!(accesses[9..], ["W 58 00000000", "W 10 00000001"]);
+    let init = |exponent| {
+        let (outcome, accesses) = listed(Call::Init, START, 50, &[0, 0, 0, 0, exponent]);
+        (outcome.result, accesses[9..].join(", "))
+    };
+    let enabled = |fcr: &str| (Ok(Value::Unit), format!("W 58 {fcr}, W 10 00000001"));
+    for exponent in 5..32 {
+        assert_eq!(init(exponent), enabled("00000000"));
+    }
+    // Or modulo 32.
+    let panicked = (Err(Failure::Panicked), String::new());
+    assert!([panicked, enabled("00000008")].contains(&init(36)));
 }
 
-/// An exponent is taken for a depth: no space at one of two words, nor at none of one.
+/// An exponent is taken for a depth: no space at one of two words, nor at none of one,
+/// nor at four of sixteen.
 #[test]
 fn space_in_the_transmit_fifo() {
     if !original_is_here() {
         return;
     }
-    for poll in [[0, 1, 1], [0, 0, 0]] {
+    for poll in [[0, 1, 1], [0, 0, 0], [0, 4, 4]] {
         let call = u8::call(Transfer::WriteNoRead(&[0]));
         let (outcome, _) = listed(call, START, 50, &poll.repeat(9));
         assert_eq!((outcome.number(), outcome.accesses), (Some(4), 27));
@@ -90,4 +118,76 @@ fn cache() {
     assert_eq!(outcome.number(), Some(0));
     assert!(accesses.contains(&"R 40 00000001".into()));
     assert!(accesses.contains(&"W 40 00000000".into()));
+}
+
+/// There is no limit of 8,000 accesses.
+#[test]
+fn a_long_flush() {
+    if !original_is_here() {
+        return;
+    }
+    let script = [vec![1 << 24; 7_998], vec![0; 3]].concat();
+    let mut log = vec![0; 16_002];
+    let outcome = original::run(Call::Flush, START, 8_001, &script, &mut log);
+    assert_eq!((outcome.number(), outcome.accesses), (Some(0), 8_001));
+}
+
+/// An `init` that does not return makes no driver.
+#[test]
+fn a_stopped_init() {
+    if !original_is_here() {
+        return;
+    }
+    let (outcome, _) = listed(Call::Init, crate::SET, 0, &[]);
+    assert_eq!((outcome.number(), outcome.driver), (Some(4), crate::SET));
+}
+
+/// A closure may set nothing, or set twice while MEN is 0.
+#[test]
+fn closures() {
+    if !original_is_here() {
+        return;
+    }
+    let (outcome, accesses) = listed(Call::NoSetting, START, 50, &[1, 1, 0, 0]);
+    assert_eq!(outcome.number(), Some(0));
+    let expected = "R 10 00000001, R 10 00000001, W 10 00000000, R 10 00000000, \
+                    R 10 00000000, W 10 00000001";
+    assert_eq!(accesses.join(", "), expected);
+
+    let call = Call::SetSamplePointAndPeripheral {
+        delayed: true,
+        enable: false,
+    };
+    let (outcome, accesses) = listed(call, START, 50, &[1, 1, 0, 0, 2, 0]);
+    assert_eq!(outcome.number(), Some(0));
+    let expected = "R 10 00000001, R 10 00000001, W 10 00000000, R 10 00000000, \
+                    R 24 00000000, W 24 00000002, R 24 00000002, W 24 00000003, \
+                    R 10 00000000, W 10 00000001";
+    assert_eq!(accesses.join(", "), expected);
+}
+
+/// Of too many elements the rest is left, and too many bytes panic but at width 32.
+#[test]
+fn words_of_too_many() {
+    if !original_is_here() {
+        return;
+    }
+    let five = [0x11, 0x22, 0x33, 0x44, 0x55];
+    assert_eq!(pack_word(8, false, &five), (0x1122_3344, 4));
+    assert_eq!(pack_word(16, false, &five[..3]), (0x0011_0022, 2));
+    assert_eq!(pack_word(32, false, &five[..2]), (0x11, 1));
+    for (bits, valid_bytes) in [(8, 5), (16, 6)] {
+        assert!(catch_unwind(|| unpack_word(bits, false, 0, valid_bytes)).is_err());
+    }
+    assert_eq!(unpack_word(32, false, 0x11, 8), [0x11]);
+}
+
+/// `unpack_word` is told bytes and not elements.
+#[test]
+fn half_an_element() {
+    if !original_is_here() {
+        return;
+    }
+    assert_eq!(unpack_word(16, false, 0x1122_3344, 1), []);
+    assert_eq!(unpack_word(16, false, 0x1122_3344, 3), [0x3344]);
 }

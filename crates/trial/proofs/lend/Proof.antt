@@ -1,7 +1,6 @@
 -- The parts that are lent have as many bytes as were asked for.
 -- Assumes nothing.
 use mathlib.Core.Path.{sym}
-use native.Mathlib.Omega.{arith}
 use lib.Seq.{length-take-le}
 use borrow.Author.Needs.{needs}
 use Rattle.trial.proofs.lend.Statement.{statement}

@@ -1,7 +1,6 @@
 -- A newline, or the end.
 -- Assumes nothing.
 use Prim.Native.Nat.{_-_, _≤_}
-use native.Mathlib.Omega.{arith}
 use lib.ListN.{length}
 use borrow.Author.Needs.{needs}
 use Rattle.trial.proofs.line_end.Statement.{statement}

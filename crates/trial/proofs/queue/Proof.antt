@@ -6,22 +6,22 @@ use Rattle.trial.proofs.queue.Statement.{statement}
 use Rattle.trial.proofs.queue.Tie as tie
 
 abbrev Inv-loop : tie.InvT-loop
-Inv-loop fifo words i₀ i = i ≤ 16
+Inv-loop fifo n i₀ i = i ≤ n
 
 abbrev μ-loop : tie.MeasureT-loop
-μ-loop fifo words i₀ i = 16 - i
+μ-loop fifo n i₀ i = n - i
+
+len-requires : tie.Need-len-requires Inv-loop μ-loop
+len-requires c κs = search needs
 
 loop-holds : tie.Need-loop-holds Inv-loop μ-loop
 loop-holds c = search needs
 
-mul-word : tie.Need-mul-word Inv-loop μ-loop
-mul-word c = search needs
-
-array-read-word : tie.Need-array-read-word Inv-loop μ-loop
-array-read-word c = search needs
-
 word-requires : tie.Need-word-requires Inv-loop μ-loop
 word-requires c κs = search needs
+
+word-requires-2 : tie.Need-word-requires-2 Inv-loop μ-loop
+word-requires-2 c κs = search needs
 
 add-i : tie.Need-add-i Inv-loop μ-loop
 add-i c = search needs
@@ -41,10 +41,10 @@ queue-spec =
     (tie.spec
     Inv-loop
     μ-loop
+    len-requires
     loop-holds
-    mul-word
-    array-read-word
     word-requires
+    word-requires-2
     add-i
     loop-less
     loop-again

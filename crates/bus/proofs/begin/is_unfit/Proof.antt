@@ -25,19 +25,19 @@ returns-3 c =
     let fifo = wide .before .before in
     let gate = fifo .before .before in
     let a = gate .before .before .args in
-    unfit-width (a .gate) (a .antenna) (a .gate-total) (a .antenna-total) (gate .if1 .left) (fifo .if2 .left) (wide .before .bits .ensures) (wide .bits2 .ensures) (c .if3 .taken)
+    unfit-width (a .gate) (a .antenna) (a .gate-total) (a .antenna-total) (gate .if1 .left) (fifo .if2 .left) (wide .before .bits .ensures .0) (wide .bits2 .ensures .0) (c .if3 .taken)
 
 bit-order-requires : tie.Need-bit-order-requires
 bit-order-requires c κs = search needs
 
-lsb-requires : tie.Need-lsb-requires
-lsb-requires c κs = search needs
+lsbf-requires : tie.Need-lsbf-requires
+lsbf-requires c κs = search needs
 
 bit-order-requires-2 : tie.Need-bit-order-requires-2
 bit-order-requires-2 c κs = search needs
 
-lsb-requires-2 : tie.Need-lsb-requires-2
-lsb-requires-2 c κs = search needs
+lsbf-requires-2 : tie.Need-lsbf-requires-2
+lsbf-requires-2 c κs = search needs
 
 returns-4 : tie.Need-returns-4
 returns-4 c =
@@ -48,8 +48,8 @@ returns-4 c =
     let fifo = wide .before .before in
     let gate = fifo .before .before in
     let a = gate .before .before .args in
-    unfit-order (a .gate) (a .antenna) (a .gate-total) (a .antenna-total) (gate .if1 .left) (fifo .if2 .left) (wide .before .bits .ensures) (wide .bits2 .ensures) (same .if3 .left)
-    (orders .lsb .ensures ∙ ap lsbfOf (orders .before .bit-order .ensures)) (order .lsb2 .ensures ∙ ap lsbfOf (order .before .bit-order2 .ensures)) (c .if4 .taken)
+    unfit-order (a .gate) (a .antenna) (a .gate-total) (a .antenna-total) (gate .if1 .left) (fifo .if2 .left) (wide .before .bits .ensures .0) (wide .bits2 .ensures .0) (same .if3 .left)
+    (orders .lsbf .ensures .0 ∙ ap lsbfOf (orders .before .bit-order .ensures)) (order .lsbf2 .ensures .0 ∙ ap lsbfOf (order .before .bit-order2 .ensures)) (c .if4 .taken)
 
 returns-5 : tie.Need-returns-5
 returns-5 c =
@@ -60,8 +60,8 @@ returns-5 c =
     let fifo = wide .before .before in
     let gate = fifo .before .before in
     let a = gate .before .before .args in
-    unfit-length (a .gate) (a .antenna) (a .gate-total) (a .antenna-total) (gate .if1 .left) (fifo .if2 .left) (wide .before .bits .ensures) (wide .bits2 .ensures) (same .if3 .left)
-    (orders .lsb .ensures ∙ ap lsbfOf (orders .before .bit-order .ensures)) (order .lsb2 .ensures ∙ ap lsbfOf (order .before .bit-order2 .ensures)) (c .if4 .left)
+    unfit-length (a .gate) (a .antenna) (a .gate-total) (a .antenna-total) (gate .if1 .left) (fifo .if2 .left) (wide .before .bits .ensures .0) (wide .bits2 .ensures .0) (same .if3 .left)
+    (orders .lsbf .ensures .0 ∙ ap lsbfOf (orders .before .bit-order .ensures)) (order .lsbf2 .ensures .0 ∙ ap lsbfOf (order .before .bit-order2 .ensures)) (c .if4 .left)
 
 pub is-unfit-spec : {M : Type 1} → statement M
 is-unfit-spec =
@@ -73,8 +73,8 @@ is-unfit-spec =
     bits-requires-2
     returns-3
     bit-order-requires
-    lsb-requires
+    lsbf-requires
     bit-order-requires-2
-    lsb-requires-2
+    lsbf-requires-2
     returns-4
     returns-5)

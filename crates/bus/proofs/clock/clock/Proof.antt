@@ -1,11 +1,10 @@
 -- `clock` meets its contract.
 -- Assumes nothing.
-use mathlib.Core.List.{List}
-use mathlib.Core.Path.{_≡_, refl, sym, ap, ap₂, _∙_, subst}
-use Prim.Native.Nat.{ℕ}
+use mathlib.Core.Path.{refl, sym, ap, ap₂, _∙_, subst}
 use Rattle.bus.specs.declared.port.Port.{Port}
-use Rattle.bus.specs.End.{Wire, front, behind, arrived}
-use Rattle.bus.specs.Held.{queueOf, Roomy}
+use Rattle.bus.specs.End.{front, behind, arrived}
+use Rattle.bus.specs.View.{queueOf}
+use Rattle.bus.specs.Held.{Roomy}
 use Rattle.bus.proofs.StationLaws.{no-words, some-words, clock-nothing, clock-made-up, clock-both}
 use borrow.Author.Needs.{needs}
 use Rattle.bus.proofs.clock.clock.Statement.{statement}

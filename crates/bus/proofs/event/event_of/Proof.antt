@@ -1,6 +1,6 @@
 -- `event_of` meets its contract.
 -- Assumes nothing.
-use borrow.Author.Tests.{eq-eqb, ne-eqb, lt-ltb, le-ltb, le-leb, lt-leb}
+use borrow.Author.Tests.{eq-eqb, ne-eqb}
 use Rattle.bus.proofs.event.event_of.Statement.{statement}
 use Rattle.bus.proofs.event.event_of.Tie as tie
 

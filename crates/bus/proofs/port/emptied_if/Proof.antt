@@ -1,6 +1,5 @@
 -- `emptied_if` meets its contract.
 -- Assumes nothing.
-use mathlib.Core.Path.{_≡_, refl, sym, ap, _∙_}
 use borrow.Author.Needs.{needs}
 use Rattle.bus.proofs.port.emptied_if.Statement.{statement}
 use Rattle.bus.proofs.port.emptied_if.Tie as tie

@@ -2,8 +2,7 @@
 -- Assumes nothing.
 use Prim.Native.Nat.{ℕ, _/_, _<_}
 use mathlib.Core.Path.{subst}
-use mathlib.Core.Path.{_≡_, refl, sym, ap, _∙_}
-use native.Mathlib.Omega.{arith}
+use mathlib.Core.Path.{sym, ap}
 use Rattle.bus.proofs.HeldLaws.{place-small}
 use borrow.Author.Needs.{needs}
 use Rattle.bus.proofs.register.place_of.Statement.{statement}

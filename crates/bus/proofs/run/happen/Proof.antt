@@ -1,7 +1,7 @@
 -- `happen` meets its contract.
 -- Assumes nothing.
 use Prim.Native.Nat.{ℕ, _≤_}
-use mathlib.Core.Path.{_≡_, refl, sym, ap, _∙_, subst}
+use mathlib.Core.Path.{refl, sym, ap, _∙_, subst}
 use lib.ListN.{length}
 use Rattle.bus.specs.declared.event.Event.the-variants.{Step, Noise}
 use Rattle.bus.specs.declared.event.Side.{Side}

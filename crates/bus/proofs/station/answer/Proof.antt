@@ -1,11 +1,11 @@
 -- `answer` meets its contract.
 -- Assumes nothing.
-use Rattle.bus.specs.Held.{wireOf}
+use Rattle.bus.specs.View.{wireOf}
 use Rattle.bus.specs.End.{showsBy}
 use Rattle.bus.specs.declared.register.Role.{Role}
 use lib.ListN.{getD}
 use Prim.Native.Nat.{ℕ}
-use mathlib.Core.Path.{_≡_, refl, sym, ap, ap₂, _∙_}
+use mathlib.Core.Path.{ap₂, _∙_}
 use borrow.Author.Needs.{needs}
 use Rattle.bus.proofs.station.answer.Statement.{statement}
 use Rattle.bus.proofs.station.answer.Tie as tie

@@ -3,7 +3,7 @@
 use Rattle.manual.specs.Manual.{setField}
 use Rattle.manual.specs.declared.Field.the-variants.{Cr}
 use Rattle.manual.specs.declared.Cr.the-variants.{RTF}
-use mathlib.Core.Path.{_≡_, refl, sym, ap, _∙_}
+use mathlib.Core.Path.{ap, _∙_}
 use borrow.Author.Needs.{needs}
 use Rattle.bus.proofs.station.control_held.Statement.{statement}
 use Rattle.bus.proofs.station.control_held.Tie as tie

@@ -1,6 +1,6 @@
 -- `due` meets its contract.
 -- Assumes nothing.
-use mathlib.Core.Path.{_≡_, refl, sym, ap, _∙_}
+use mathlib.Core.Path.{sym, _∙_}
 use borrow.Author.Needs.{needs}
 use Rattle.bus.proofs.station.due.Statement.{statement}
 use Rattle.bus.proofs.station.due.Tie as tie

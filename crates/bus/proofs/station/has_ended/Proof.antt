@@ -1,6 +1,6 @@
 -- `has_ended` meets its contract.
 -- Assumes nothing.
-use mathlib.Core.Path.{_≡_, refl, sym, ap, _∙_}
+use mathlib.Core.Path.{sym, _∙_}
 use borrow.Author.Needs.{needs}
 use Rattle.bus.proofs.station.has_ended.Statement.{statement}
 use Rattle.bus.proofs.station.has_ended.Tie as tie

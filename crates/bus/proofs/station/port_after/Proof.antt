@@ -1,9 +1,9 @@
 -- `port_after` meets its contract.
 -- Assumes nothing.
-use mathlib.Core.Path.{_≡_, refl, sym, ap, ap₂, _∙_}
+use mathlib.Core.Path.{ap, _∙_}
 use Rattle.bus.specs.declared.register.Role.{Role}
 use Rattle.bus.specs.End.{readBy, writtenBy}
-use Rattle.bus.specs.Held.{wireOf}
+use Rattle.bus.specs.View.{wireOf}
 use borrow.Author.Needs.{needs}
 use Rattle.bus.proofs.station.port_after.Statement.{statement}
 use Rattle.bus.proofs.station.port_after.Tie as tie

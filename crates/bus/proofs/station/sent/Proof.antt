@@ -1,6 +1,5 @@
 -- `sent` meets its contract.
 -- Assumes nothing.
-use mathlib.Core.Path.{_≡_, refl, sym, ap, _∙_}
 use borrow.Author.Needs.{needs}
 use Rattle.bus.proofs.station.sent.Statement.{statement}
 use Rattle.bus.proofs.station.sent.Tie as tie

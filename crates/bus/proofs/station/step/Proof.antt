@@ -3,7 +3,8 @@
 use Prim.Native.Nat.{ℕ, _≤_}
 use mathlib.Core.Path.{sym, subst}
 use lib.ListN.{length}
-use Rattle.bus.proofs.StationLaws.{step-is, got-within}
+use Rattle.runs.proofs.DriveLaws.{got-fit}
+use Rattle.bus.proofs.StationLaws.{step-is}
 use borrow.Author.Needs.{needs}
 use Rattle.bus.proofs.station.step.Statement.{statement}
 use Rattle.bus.proofs.station.step.Tie as tie
@@ -39,7 +40,7 @@ returns : tie.Need-returns
 returns c =
     let a = c .before .before .before .before .before .before .before .before .before .before .before .before .before .before .before .before .before .before .before .args in (
       c .port-after .ensures .0,
-      subst (λ (m : ℕ). m ≤ length (a .words .now)) (sym (c .before .before .before .before .before .keep .ensures .0)) (got-within (c .before .before .before .before .before .before .before .before .before .before .before .before .before .due .result) (a .station .received) (length (a .words .now)) (c .before .before .before .before .before .before .before .before .before .before .before .before .before .before .before .before .before .before .before .pre .2)),
+      subst (λ (m : ℕ). m ≤ length (a .words .now)) (sym (c .before .before .before .before .before .keep .ensures .0)) (got-fit (c .before .before .before .before .before .before .before .before .before .before .before .before .before .due .result) (a .station .received) (length (a .words .now)) (c .before .before .before .before .before .before .before .before .before .before .before .before .before .before .before .before .before .before .before .pre .2)),
       λ h. step-is (a .station) (a .busy) (a .link) (a .send .now) (a .words .now) (a .registers .now) (c .before .before .before .before .before .before .before .before .before .before .before .before .before .due .result) (c .before .before .before .before .before .before .before .before .before .before .before .answer .result) (c .before .before .before .before .before .before .before .before .before .sent .result) (c .before .before .before .before .before .keep .result)
           (c .before .before .before .before .before .keep .last .1 .0) (c .before .before .before .before .before .before .before .store .last .1 .0) (c .before .before .answered .result) (c .before .flush-after .result) (c .port-after .result)
           (c .before .before .before .before .before .before .before .before .before .before .before .before .before .due .ensures) (c .before .before .before .before .before .before .before .before .before .before .before .answer .ensures) (c .before .before .before .before .before .before .before .before .before .sent .ensures) (c .before .before .before .before .before .before .before .store .ensures) (c .before .before .before .before .before .keep .ensures .0) (c .before .before .before .before .before .keep .ensures .1)

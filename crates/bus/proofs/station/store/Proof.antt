@@ -1,6 +1,5 @@
 -- `store` meets its contract.
 -- Assumes nothing.
-use mathlib.Core.Path.{_≡_, refl, sym, ap, ap₂, _∙_}
 use borrow.Author.Needs.{needs}
 use Rattle.bus.proofs.station.store.Statement.{statement}
 use Rattle.bus.proofs.station.store.Tie as tie

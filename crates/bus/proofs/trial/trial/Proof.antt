@@ -2,15 +2,15 @@
 -- Assumes nothing.
 use Prim.Native.Nat.{ℕ}
 use mathlib.Core.List.{List, []}
-use mathlib.Core.Path.{_≡_, refl, sym, ap, ap₂, _∙_}
+use mathlib.Core.Path.{_≡_, sym, ap, ap₂, _∙_}
 use native.Mathlib.Omega.{arith}
-use Rattle.bus.specs.Begin.{unfitBy}
-use Rattle.bus.specs.Events.{pair}
-use Rattle.bus.specs.Trial.{slices, pick, startOf, TrialLeft}
-use Rattle.bus.specs.Agreement.{Seen, seen}
+use Rattle.bus.specs.Start.{unfitBy}
+use Rattle.bus.specs.Trial.{slices, pick, startOf}
+use Rattle.bus.specs.Agreement.{seen}
 use Rattle.bus.specs.End.{freshEnd}
 use Rattle.bus.specs.Held.{endOf}
-use Rattle.bus.proofs.TrialLaws.{total-lent, fresh-lent, elements-lent, picked, agreement-left, left-refused, left-run, state-left, fresh-pair}
+use Rattle.bus.proofs.TrialLaws.{total-lent, fresh-lent, elements-lent, picked, agreement-left, left-refused, left-run, state-left}
+use Rattle.bus.proofs.StationLaws.{same-pair}
 use borrow.Author.Needs.{needs}
 use Rattle.bus.proofs.trial.trial.Statement.{statement}
 use Rattle.bus.proofs.trial.trial.Tie as tie
@@ -116,7 +116,7 @@ exchange-requires c κs =
       antennaPort = c .before .before .before .before .before .before .before .before .before .before .before .before .fresh-station2 .ensures .0;
       gateNone = c .before .before .before .before .before .before .before .before .before .before .before .before .before .before .fresh-station .ensures .1;
       antennaNone = c .before .before .before .before .before .before .before .before .before .before .before .before .fresh-station2 .ensures .1;
-      fresh = λ ws xs. fresh-pair (g₀ ws) (a₀ xs);
+      fresh = λ ws xs. same-pair (g₀ ws) (a₀ xs);
     }
 
 left-requires-2 : tie.Need-left-requires-2

@@ -5,9 +5,9 @@ use mathlib.Core.Path.{ap, ap₂, _∙_}
 use borrow.Author.Tests.{eq-eqb, ne-eqb}
 use Rattle.words.specs.declared.clock.ClockConfigs.{ClockConfigs}
 use Rattle.words.specs.declared.mode.Pcs.{Pcs}
-use Rattle.machine.specs.declared.settings.PcsPolarity.{PcsPolarity}
-use Rattle.machine.specs.declared.settings.SamplePoint.{SamplePoint}
-use Rattle.machine.specs.declared.call.Call.the-variants.{SetClockConfigs, SetSamplePoint, SetPeripheralEnable, SetChipSelectPolarity}
+use Rattle.sequences.specs.declared.settings.PcsPolarity.{PcsPolarity}
+use Rattle.sequences.specs.declared.settings.SamplePoint.{SamplePoint}
+use Rattle.sequences.specs.declared.call.Call.the-variants.{SetClockConfigs, SetSamplePoint, SetPeripheralEnable, SetChipSelectPolarity}
 use Rattle.runs.specs.Call.{callRun}
 use Rattle.calls.specs.Calls.{ranCall}
 use borrow.Author.Needs.{needs}

@@ -5,8 +5,8 @@ use mathlib.Core.Path.{ap, _∙_}
 use borrow.Author.Tests.{eq-eqb, ne-eqb}
 use Rattle.words.specs.declared.transaction.Direction.{Direction}
 use Rattle.words.specs.Command.{flagOf}
-use Rattle.machine.specs.declared.status.Status.{Status}
-use Rattle.machine.specs.declared.call.Call.the-variants.{GetWatermark, SetWatermark}
+use Rattle.sequences.specs.declared.status.Status.{Status}
+use Rattle.sequences.specs.declared.call.Call.the-variants.{GetWatermark, SetWatermark}
 use Rattle.runs.specs.Call.{callRun}
 use Rattle.calls.specs.Calls.{valued}
 use Rattle.calls.specs.Values.{watermarkIn, levelIn}

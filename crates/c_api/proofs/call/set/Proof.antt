@@ -4,8 +4,8 @@ use mathlib.Core.Bool.{Bool}
 use mathlib.Core.Path.{ap, _∙_}
 use borrow.Author.Tests.{eq-eqb, ne-eqb}
 use Rattle.words.specs.declared.transaction.Direction.{Direction}
-use Rattle.machine.specs.declared.status.Status.{Status}
-use Rattle.machine.specs.declared.call.Call.the-variants.{ClearStatus, SetEnable, ClearFifo}
+use Rattle.sequences.specs.declared.status.Status.{Status}
+use Rattle.sequences.specs.declared.call.Call.the-variants.{ClearStatus, SetEnable, ClearFifo}
 use Rattle.runs.specs.Call.{callRun}
 use Rattle.calls.specs.Calls.{ranCall}
 use borrow.Author.Needs.{needs}

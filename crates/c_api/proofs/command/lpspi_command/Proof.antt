@@ -1,28 +1,16 @@
 -- `lpspi_command` meets its contract: each setter's field is the definition's.
 -- Assumes nothing.
-use Prim.Native.Nat.{ℕ}
-use mathlib.Core.Bool.{Bool, cond}
-use mathlib.Core.Path.{_≡_, ap, ap₂, sym, _∙_}
+use mathlib.Core.Path.{ap, ap₂, sym, _∙_}
 use Rattle.manual.specs.declared.Tcr.the-variants.{BYSW, RXMSK, TXMSK, CONT, CONTC}
-use Rattle.words.specs.declared.order.BitOrder.{BitOrder}
-use Rattle.words.specs.Command.{commandAnswer, commanded, setFlag, setOrder, setMode, setPcs, settingsWord}
-use Rattle.c_api.specs.Host.{settingsFrom, kept, answered}
-use Rattle.words.proofs.CommandLaws.{accepted-word, refused-size, refused-long}
+use Rattle.words.specs.Command.{commandAnswer, setFlag, setOrder, setMode, setPcs}
+use Rattle.c_api.specs.Host.{answered}
+use Rattle.words.proofs.CommandLaws.{accepted-word, refused-size}
 use borrow.Author.Needs.{needs}
 use Rattle.c_api.proofs.command.lpspi_command.Statement.{statement}
 use Rattle.c_api.proofs.command.lpspi_command.Tie as tie
 
-cast-if1 : tie.Need-cast-if1
-cast-if1 c = search needs
-
-returns : tie.Need-returns
-returns c = let no = refused-long (c .before .args .frame-size) (c .if1 .taken) in rw no
-
-cast-new : tie.Need-cast-new
-cast-new c = search needs
-
-new-requires : tie.Need-new-requires
-new-requires c κs = search needs
+command-of-requires : tie.Need-command-of-requires
+command-of-requires c κs = search needs
 
 enum-known-command : tie.Need-enum-known-command
 enum-known-command c = search needs
@@ -30,10 +18,10 @@ enum-known-command c = search needs
 enum-told : tie.Need-enum-told
 enum-told c = search needs
 
-returns-2 : tie.Need-returns-2
-returns-2 c =
-    let a = c .before .before .before .before .args in
-    let no = refused-size (a .frame-size) (c .enum-told .given .0 .0) (ap commandAnswer (sym (c .enum-told .given .1)) ∙ c .before .before .new .ensures) in
+returns : tie.Need-returns
+returns c =
+    let f = c .before .before .before .args .frame-size in
+    let no = refused-size f (c .enum-told .given .0 .0) (ap commandAnswer (sym (c .enum-told .given .1)) ∙ c .before .before .command-of .ensures) in
     rw no
 
 order-of-requires : tie.Need-order-of-requires
@@ -72,12 +60,12 @@ with-continuing-requires c κs = search needs
 as-raw-requires : tie.Need-as-raw-requires
 as-raw-requires c κs = search needs
 
-returns-3 : tie.Need-returns-3
-returns-3 c =
+returns-2 : tie.Need-returns-2
+returns-2 c =
     let p = c .before .before .before .before .before .before .before .before .before .before in
     let s = p .before .before .before in
-    let a = s .before .before .before .before .args in
-    let yes = accepted-word (a .frame-size) _ (ap commandAnswer (sym (s .command .given .1)) ∙ s .before .before .new .ensures) in
+    let a = s .before .before .before .args in
+    let yes = accepted-word (a .frame-size) _ (ap commandAnswer (sym (s .command .given .1)) ∙ s .before .before .command-of .ensures) in
     let order = p .with-bit-order .ensures ∙ ap₂ setOrder (p .before .order-of .ensures) (yes .1) in
     let mode = c .before .before .before .before .before .before .before .before .with-mode .ensures ∙ ap₂ setMode (c .before .before .before .before .before .before .before .before .before .mode-of .ensures) order in
     let pcs = c .before .before .before .before .before .before .with-pcs .ensures ∙ ap₂ setPcs (c .before .before .before .before .before .before .before .pcs-of .ensures) mode in
@@ -92,13 +80,10 @@ pub lpspi-command-spec : {M : Type 1} → statement M
 lpspi-command-spec =
     tie.close
     (tie.spec
-    cast-if1
-    returns
-    cast-new
-    new-requires
+    command-of-requires
     enum-known-command
     enum-told
-    returns-2
+    returns
     order-of-requires
     with-bit-order-requires
     mode-of-requires
@@ -111,4 +96,4 @@ lpspi-command-spec =
     with-continuous-requires
     with-continuing-requires
     as-raw-requires
-    returns-3)
+    returns-2)

@@ -22,8 +22,8 @@ mode-number-requires c κs = search needs
 pcs-requires : tie.Need-pcs-requires
 pcs-requires c κs = search needs
 
-pcs-number-requires : tie.Need-pcs-number-requires
-pcs-number-requires c κs = search needs
+number-requires : tie.Need-number-requires
+number-requires c κs = search needs
 
 mul-result : tie.Need-mul-result
 mul-result c = search needs
@@ -56,7 +56,7 @@ add-result-4 : tie.Need-add-result-4
 add-result-4 c = search needs
 
 returns : tie.Need-returns
-returns c = simp (c .before .before .pcs-number .ensures .0, c .before .before .before .pcs .ensures, c .before .before .before .before .mode-number .ensures .0, c .before .before .before .before .before .mode .ensures, c .before .before .before .before .before .before .lsbf .ensures .0, c .before .before .before .before .before .before .before .bit-order .ensures, c .before .before .before .before .before .before .before .before .ccr-cache .ensures)
+returns c = (simp (c .before .before .number .ensures .0, c .before .before .before .pcs .ensures, c .before .before .before .before .mode-number .ensures .0, c .before .before .before .before .before .mode .ensures, c .before .before .before .before .before .before .lsbf .ensures .0, c .before .before .before .before .before .before .before .bit-order .ensures, c .before .before .before .before .before .before .before .before .ccr-cache .ensures), search needs)
 
 pub driver-number-spec : {M : Type 1} → statement M
 driver-number-spec =
@@ -68,7 +68,7 @@ driver-number-spec =
     mode-requires
     mode-number-requires
     pcs-requires
-    pcs-number-requires
+    number-requires
     mul-result
     add-result
     mul-result-2

@@ -1,6 +1,5 @@
 -- `lpspi_unpack_u8` meets its contract: the answer taken apart is the definition's.
 -- Assumes nothing.
-use Prim.Native.Nat.{ℕ}
 use mathlib.Core.Path.{ap, sym, _∙_}
 use Rattle.words.specs.declared.order.BitOrder.{BitOrder}
 use Rattle.words.specs.Answer.{unpackNumber}

@@ -1,7 +1,7 @@
 -- `board` meets its contract.
 -- Assumes nothing.
 use mathlib.Core.Path.{ap}
-use Rattle.machine.specs.declared.driver.Lpspi.{Lpspi}
+use Rattle.sequences.specs.declared.driver.Lpspi.{Lpspi}
 use Rattle.bus.specs.declared.board.Board.{Board}
 use lib.Dec.{eqb}
 use Prim.Native.Nat.{_%_}

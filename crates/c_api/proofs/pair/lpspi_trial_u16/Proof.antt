@@ -40,8 +40,8 @@ slice-aggregate-trial-8 c = search needs
 trial-requires : tie.Need-trial-requires
 trial-requires c κs = search needs
 
-show-requires : tie.Need-show-requires
-show-requires c κs = search needs
+report-requires : tie.Need-report-requires
+report-requires c κs = search needs
 
 same-length : tie.Need-same-length
 same-length c = search needs
@@ -54,9 +54,9 @@ same-length-3 c = search needs
 
 returns : tie.Need-returns
 returns c =
-    let a = c .before .before .before .before .before .before .before .before .before .before .before .before .before .before .before .before .before .before .before .before .before .before .before .before .before .before .before .before .before .before .before .before .before .args in
-    let t = c .before .before .before .before .before .before .before .before .before .before .before .before .before .before .trial in
-    host-trial U16 (t .result) (slices (t .last .1 .1 .0) (t .last .1 .1 .1 .0) (t .last .1 .1 .1 .1 .0)) (slices (t .last .1 .1 .1 .1 .1 .1 .1 .1 .0) (t .last .1 .1 .1 .1 .1 .1 .1 .1 .1 .0) (t .last .1 .1 .1 .1 .1 .1 .1 .1 .1 .1 .0)) (c .before .before .before .before .before .before .before .before .before .before .before .before .before .before .before .before .before .before .before .before .before .before .before .before .before .before .board .result) (c .before .before .before .before .before .before .before .before .before .before .before .before .before .before .before .before .before .before .before .before .before .before .before .before .before .board2 .result) (a .gate-driver) (a .antenna-driver) (a .inplace) (a .gate-exponent) (a .antenna-exponent) (a .gate-read .now) (a .gate-write .now) (a .antenna-read .now) (a .antenna-write .now) (a .events .now) (a .state .now) (c .before .before .show .last .1 .1 .0) (c .before .before .before .before .before .before .before .before .before .before .before .before .before .before .before .before .before .before .before .before .before .before .before .before .before .before .board .ensures) (c .before .before .before .before .before .before .before .before .before .before .before .before .before .before .before .before .before .before .before .before .before .before .before .before .before .board2 .ensures) (t .ensures .0) (c .before .before .show .ensures)
+    let a = c .before .before .before .before .before .before .before .before .before .before .before .before .before .before .before .before .before .before .before .before .before .before .before .before .before .before .before .before .before .before .before .args in
+    let t = c .before .before .before .before .before .before .before .before .before .before .before .before .trial in
+    host-trial U16 (t .result) (slices (t .last .1 .1 .0) (t .last .1 .1 .1 .0) (t .last .1 .1 .1 .1 .0)) (slices (t .last .1 .1 .1 .1 .1 .1 .1 .1 .0) (t .last .1 .1 .1 .1 .1 .1 .1 .1 .1 .0) (t .last .1 .1 .1 .1 .1 .1 .1 .1 .1 .1 .0)) (c .before .before .before .before .before .before .before .before .before .before .before .before .before .before .before .before .before .before .before .before .before .before .before .before .board .result) (c .before .before .before .before .before .before .before .before .before .before .before .before .before .before .before .before .before .before .before .before .before .before .before .board2 .result) (a .gate-driver) (a .antenna-driver) (a .inplace) (a .gate-exponent) (a .antenna-exponent) (a .gate-read .now) (a .gate-write .now) (a .antenna-read .now) (a .antenna-write .now) (a .events .now) (a .state .now) (c .before .before .report .last .1 .0) (c .before .before .report .result) (c .before .before .before .before .before .before .before .before .before .before .before .before .before .before .before .before .before .before .before .before .before .before .before .before .board .ensures) (c .before .before .before .before .before .before .before .before .before .before .before .before .before .before .before .before .before .before .before .before .before .before .before .board2 .ensures) (t .ensures .0) (c .before .before .report .ensures)
 
 pub lpspi-trial-u16-spec : {M : Type 1} → statement M
 lpspi-trial-u16-spec =
@@ -73,7 +73,7 @@ lpspi-trial-u16-spec =
     slice-aggregate-trial-7
     slice-aggregate-trial-8
     trial-requires
-    show-requires
+    report-requires
     same-length
     same-length-2
     same-length-3

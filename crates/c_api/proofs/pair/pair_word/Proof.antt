@@ -2,7 +2,7 @@
 -- Assumes nothing.
 use mathlib.Core.Path.{_∙_}
 use native.Mathlib.Omega.{arith}
-use Rattle.bus.specs.Trial.{stateOf}
+use Rattle.bus.specs.View.{stateOf}
 use Rattle.c_api.proofs.PairLaws.{word-gate, word-antenna}
 use borrow.Author.Needs.{needs}
 use Rattle.c_api.proofs.pair.pair_word.Statement.{statement}

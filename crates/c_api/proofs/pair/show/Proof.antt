@@ -8,7 +8,7 @@ use lib.ListN.{length, getD, length-set}
 use Rattle.words.specs.Buffer.{tabulate}
 use Rattle.words.specs.Word.{laid}
 use Rattle.words.proofs.BufferLaws.{store-step}
-use Rattle.bus.specs.Trial.{stateOf}
+use Rattle.bus.specs.View.{stateOf}
 use Rattle.c_api.specs.HostBus.{stateWords}
 use Rattle.c_api.proofs.PairLaws.{length-both, shown}
 use borrow.Author.Needs.{needs}

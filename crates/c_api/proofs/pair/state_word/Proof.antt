@@ -5,7 +5,7 @@ use mathlib.Core.List.{List}
 use mathlib.Core.Path.{ap, _∙_}
 use native.Mathlib.Omega.{arith}
 use lib.ListN.{getD}
-use Rattle.bus.specs.Trial.{stateOf}
+use Rattle.bus.specs.View.{stateOf}
 use Rattle.c_api.proofs.PairLaws.{word-head, word-transmit, word-receive, word-register}
 use borrow.Author.Needs.{needs}
 use Rattle.c_api.proofs.pair.state_word.Statement.{statement}
@@ -23,17 +23,17 @@ array-read-result c = search needs
 returns : tie.Need-returns
 returns c = let a = c .before .before .before .args in ap (λ (l : List ℕ). getD l (a .i) 0) (c .head .ensures) ∙ word-head (stateOf (a .end)) (a .i) (omega arith)
 
-queued-requires : tie.Need-queued-requires
-queued-requires c κs = search needs
+word-requires : tie.Need-word-requires
+word-requires c κs = search needs
 
 returns-2 : tie.Need-returns-2
-returns-2 c = let a = c .before .before .before .before .before .before .args in c .queued .ensures ∙ word-transmit (stateOf (a .end)) (a .i) (omega arith) (omega arith)
+returns-2 c = let a = c .before .before .before .before .before .before .args in c .word .ensures ∙ word-transmit (stateOf (a .end)) (a .i) (omega arith) (omega arith)
 
-queued-requires-2 : tie.Need-queued-requires-2
-queued-requires-2 c κs = search needs
+word-requires-2 : tie.Need-word-requires-2
+word-requires-2 c κs = search needs
 
 returns-3 : tie.Need-returns-3
-returns-3 c = let a = c .before .before .before .before .before .before .before .args in c .queued2 .ensures ∙ word-receive (stateOf (a .end)) (a .i) (omega arith) (omega arith)
+returns-3 c = let a = c .before .before .before .before .before .before .before .args in c .word2 .ensures ∙ word-receive (stateOf (a .end)) (a .i) (omega arith) (omega arith)
 
 mul-result-2 : tie.Need-mul-result-2
 mul-result-2 c = search needs
@@ -52,9 +52,9 @@ state-word-spec =
     mul-result
     array-read-result
     returns
-    queued-requires
+    word-requires
     returns-2
-    queued-requires-2
+    word-requires-2
     returns-3
     mul-result-2
     array-read-result-2

@@ -1,7 +1,7 @@
 -- `lpspi_flush` meets its contract: the run's.
 -- Assumes nothing.
 use mathlib.Core.Path.{ap, _∙_}
-use Rattle.machine.specs.declared.driver.Lpspi.{Lpspi}
+use Rattle.sequences.specs.declared.driver.Lpspi.{Lpspi}
 use Rattle.runs.specs.Flush.{flushRun}
 use Rattle.c_api.specs.HostRun.{ofCall}
 use Rattle.c_api.proofs.HostLaws.{host-call}
@@ -15,29 +15,19 @@ driver-of-requires c κs = search needs
 flush-requires : tie.Need-flush-requires
 flush-requires c κs = search needs
 
-driver-number-requires : tie.Need-driver-number-requires
-driver-number-requires c κs = search needs
-
-number-requires : tie.Need-number-requires
-number-requires c κs = search needs
+hand-back-requires : tie.Need-hand-back-requires
+hand-back-requires c κs = search needs
 
 same-length : tie.Need-same-length
 same-length c = search needs
 
 returns : tie.Need-returns
 returns c =
-    let a = c .before .before .before .before .before .before .before .before .before .before .args in
-    let x = c .before .before .before .before .flush in
-    host-call (x .result) (c .number .ensures) (c .before .driver-number .ensures) (x .ensures)
-    ∙ ap (λ (d : Lpspi). ofCall (flushRun d (a .budget) (a .script .now) (a .log .now))) (c .before .before .before .before .before .before .driver-of .ensures)
+    let a = c .before .before .before .before .before .before .before .before .before .before .before .before .args in
+    let x = c .before .before .before .before .before .before .flush in
+    host-call (x .result) (a .driver .now) (c .hand-back .ensures) (x .ensures)
+    ∙ ap (λ (d : Lpspi). ofCall (a .driver .now) (flushRun d (a .budget) (a .script .now) (a .log .now))) (c .before .before .before .before .before .before .before .before .driver-of .ensures)
 
 pub lpspi-flush-spec : {M : Type 1} → statement M
 lpspi-flush-spec =
-    tie.close
-    (tie.spec
-    driver-of-requires
-    flush-requires
-    driver-number-requires
-    number-requires
-    same-length
-    returns)
+    tie.close (tie.spec driver-of-requires flush-requires hand-back-requires same-length returns)

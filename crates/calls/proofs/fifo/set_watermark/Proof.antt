@@ -1,7 +1,7 @@
 -- `set_watermark` meets its contract: its value comes with Ok.
 -- Assumes nothing.
 use mathlib.Core.Path.{refl, ap, _∙_}
-use Rattle.machine.specs.Sequence.{levelOf}
+use Rattle.sequences.specs.Sequence.{levelOf}
 use Rattle.calls.specs.Values.{levelIn}
 use Rattle.calls.proofs.EntryLaws.{has-value, has-none}
 use borrow.Author.Needs.{needs}

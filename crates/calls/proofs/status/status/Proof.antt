@@ -2,7 +2,7 @@
 -- Assumes nothing.
 use Prim.Native.Nat.{ℕ}
 use mathlib.Core.Path.{ap, _∙_}
-use Rattle.machine.specs.Status.{statusOf}
+use Rattle.sequences.specs.Status.{statusOf}
 use Rattle.calls.specs.Values.{statusIn, noStatus}
 use Rattle.calls.proofs.EntryLaws.{has-value, has-none}
 use borrow.Author.Needs.{needs}

@@ -1,7 +1,6 @@
 -- `bad` meets its contract.
 -- Assumes nothing.
 use mathlib.Core.List.{[], _∷_}
-use mathlib.Core.Path.{_≡_}
 use native.Mathlib.Omega.{arith}
 use Rattle.lines.proofs.WrittenLaws.{written-then}
 use borrow.Author.Needs.{needs}

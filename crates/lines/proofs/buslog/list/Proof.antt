@@ -5,7 +5,7 @@ use mathlib.Core.List.{List}
 use mathlib.Core.Path.{sym, ap, _∙_, subst}
 use native.Mathlib.Omega.{arith}
 use lib.Seq.{length-take-le}
-use Rattle.machine.specs.Driver.{startDriver, withOrder}
+use Rattle.sequences.specs.Driver.{startDriver, withOrder}
 use Rattle.transfers.specs.Transfers.{exchangeSeparate}
 use Rattle.lines.specs.Buslog.{zeros, listing, Printed}
 use Rattle.lines.proofs.PrintedLaws.{take-zeros}

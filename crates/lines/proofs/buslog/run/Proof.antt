@@ -4,9 +4,9 @@ use Prim.Native.Nat.{ℕ, _^_, _<_}
 use mathlib.Core.Path.{ap, _∙_, subst}
 use native.Mathlib.Omega.{arith}
 use lib.ListN.{getD}
-use Rattle.machine.specs.Driver.{withOrder}
+use Rattle.sequences.specs.Driver.{withOrder}
 use Rattle.lines.specs.Buslog.{zeros}
-use Rattle.lines.proofs.JobLaws.{last-width}
+use Rattle.lines.proofs.TaskLaws.{last-width}
 use Rattle.lines.proofs.PrintedLaws.{as-asked}
 use borrow.Author.Needs.{needs}
 use Rattle.lines.proofs.buslog.run.Statement.{statement}

@@ -1,73 +1,69 @@
 -- `list_u32` meets its contract: the exchange, then the parts of its listing.
 -- Assumes nothing.
-use Prim.Native.Nat.{ℕ}
-use mathlib.Core.List.{List}
-use mathlib.Core.Path.{_≡_, ap, _∙_}
+use Prim.Native.Nat.{_≤_}
+use mathlib.Core.Path.{_≡_}
 use native.Mathlib.Omega.{arith}
-use Rattle.transfers.specs.Transfers.{exchangeSeparate}
+use lib.ListN.{length}
+use Rattle.transfers.specs.Transfers.{transferLeft, exchangeSeparate}
+use Rattle.transfers.proofs.CallLaws.{Counts}
 use Rattle.lines.proofs.PrintedLaws.{exchange-counts, listed}
 use borrow.Author.Needs.{needs}
 use Rattle.lines.proofs.list.list_u32.Statement.{statement}
 use Rattle.lines.proofs.list.list_u32.Tie as tie
+
+-- AFTER THE EXCHANGE: what it left, its counts, and the room that there is
+module _ (c : tie.After-exchange-separate-u32) where
+  left :
+      transferLeft (c .exchange-separate-u32 .result) (c .exchange-separate-u32 .last .1 .1 .1 .1 .1 .0) (c .exchange-separate-u32 .last .1 .0)
+      ≡ exchangeSeparate 32 (c .before .before .before .before .before .before .before .before .args .driver) (c .before .before .before .before .before .before .before .before .args .read .now) (c .before .before .before .before .before .before .before .before .args .write .now) (c .before .before .before .before .before .before .before .before .args .budget) (c .before .before .before .before .before .before .before .before .args .script .now) (c .before .before .before .before .before .before .before .before .args .log .now)
+  left = c .exchange-separate-u32 .ensures
+
+  counts : Counts (c .before .before .before .before .before .before .before .before .args .log .now) (c .exchange-separate-u32 .result)
+  counts =
+      let a = c .before .before .before .before .before .before .before .before .args in
+      exchange-counts 32 (a .driver) (a .read .now) (a .write .now) (a .budget) (a .script .now) (a .log .now) (c .exchange-separate-u32 .result) (c .exchange-separate-u32 .last .1 .1 .1 .1 .1 .0) (c .exchange-separate-u32 .last .1 .0) left
+
+  room : (116626 ≤ length (c .before .before .before .before .before .before .before .before .args .out .now)) × (length (c .before .before .before .before .before .before .before .before .args .read .now) ≤ 512)
+  room = (c .before .before .before .before .before .before .before .before .pre .0, c .before .before .before .before .before .before .before .before .pre .1)
 
 exchange-separate-u32-requires : tie.Need-exchange-separate-u32-requires
 exchange-separate-u32-requires c κs = search needs
 
 access-lines-requires : tie.Need-access-lines-requires
 access-lines-requires c κs =
-    let x = c .before .before .before .before .before .before .exchange-separate-u32 in
-    let a = c .before .before .before .before .before .before .before .before .before .before .before .before .before .before .args in
-    let log = x .last .1 .1 .1 .1 .1 .0 in
-    let read = x .last .1 .0 in
-    let left = x .ensures in
-    let n = exchange-counts 32 (a .driver) (a .read .now) (a .write .now) (a .budget) (a .script .now) (a .log .now) (x .result) log read left in
-    (omega (arith, n .pairs, x .kept .1 .1 .1 .1 .1 .0), omega (arith, n .accesses, c .before .before .before .before .before .before .before .before .before .before .before .before .before .before .pre .0))
+    let x = c .before .before .before .before .before .before in
+    let n = counts x in
+    (omega (arith, n .pairs, x .exchange-separate-u32 .kept .1 .1 .1 .1 .1 .0), omega (arith, n .accesses, room x .0))
 
 words-requires : tie.Need-words-requires
 words-requires c κs =
-    let x = c .before .before .before .before .before .before .before .before .before .before .before .exchange-separate-u32 in
-    let a = c .before .before .before .before .before .before .before .before .before .before .before .before .before .before .before .before .before .before .before .args in
-    let log = x .last .1 .1 .1 .1 .1 .0 in
-    let read = x .last .1 .0 in
-    let left = x .ensures in
-    let n = exchange-counts 32 (a .driver) (a .read .now) (a .write .now) (a .budget) (a .script .now) (a .log .now) (x .result) log read left in
+    let x = c .before .before .before .before .before .before .before .before .before .before .before in
+    let n = counts x in
     let l = c .before .before .before .before .access-lines in
-    omega (arith, n .accesses, l .ensures .0, l .kept .0, x .kept .1 .0, c .before .before .before .before .before .before .before .before .before .before .before .before .before .before .before .before .before .before .before .pre .0, c .before .before .before .before .before .before .before .before .before .before .before .before .before .before .before .before .before .before .before .pre .1)
+    omega (arith, n .accesses, l .ensures .0, l .kept .0, x .exchange-separate-u32 .kept .1 .0, room x .0, room x .1)
 
 number-requires : tie.Need-number-requires
 number-requires c κs = search needs
 
 cast-result-line : tie.Need-cast-result-line
 cast-result-line c =
-    let x = c .before .before .before .before .before .before .before .before .before .before .before .before .before .before .before .before .exchange-separate-u32 in
-    let a = c .before .before .before .before .before .before .before .before .before .before .before .before .before .before .before .before .before .before .before .before .before .before .before .before .args in
-    let log = x .last .1 .1 .1 .1 .1 .0 in
-    let read = x .last .1 .0 in
-    let left = x .ensures in
-    let n = exchange-counts 32 (a .driver) (a .read .now) (a .write .now) (a .budget) (a .script .now) (a .log .now) (x .result) log read left in
+    let x = c .before .before .before .before .before .before .before .before .before .before .before .before .before .before .before .before in
+    let n = counts x in
     record { fits = omega (arith, n .accesses) }
 
 cast-result-line-2 : tie.Need-cast-result-line-2
 cast-result-line-2 c =
-    let x = c .before .before .before .before .before .before .before .before .before .before .before .before .before .before .before .before .exchange-separate-u32 in
-    let a = c .before .before .before .before .before .before .before .before .before .before .before .before .before .before .before .before .before .before .before .before .before .before .before .before .args in
-    let log = x .last .1 .1 .1 .1 .1 .0 in
-    let read = x .last .1 .0 in
-    let left = x .ensures in
-    let n = exchange-counts 32 (a .driver) (a .read .now) (a .write .now) (a .budget) (a .script .now) (a .log .now) (x .result) log read left in
+    let x = c .before .before .before .before .before .before .before .before .before .before .before .before .before .before .before .before in
+    let n = counts x in
     record { fits = omega (arith, n .accesses, n .answers) }
 
 result-line-requires : tie.Need-result-line-requires
 result-line-requires c κs =
-    let x = c .before .before .before .before .before .before .before .before .before .before .before .before .before .before .before .before .exchange-separate-u32 in
-    let a = c .before .before .before .before .before .before .before .before .before .before .before .before .before .before .before .before .before .before .before .before .before .before .before .before .args in
-    let log = x .last .1 .1 .1 .1 .1 .0 in
-    let read = x .last .1 .0 in
-    let left = x .ensures in
-    let n = exchange-counts 32 (a .driver) (a .read .now) (a .write .now) (a .budget) (a .script .now) (a .log .now) (x .result) log read left in
+    let x = c .before .before .before .before .before .before .before .before .before .before .before .before .before .before .before .before in
+    let n = counts x in
     let l = c .before .before .before .before .before .before .before .before .before .access-lines in
     let e = c .before .before .before .before .words in
-    omega (arith, n .accesses, l .ensures .0, e .ensures .0, l .kept .0, e .kept .0, x .kept .1 .0, c .before .before .before .before .before .before .before .before .before .before .before .before .before .before .before .before .before .before .before .before .before .before .before .before .pre .0, c .before .before .before .before .before .before .before .before .before .before .before .before .before .before .before .before .before .before .before .before .before .before .before .before .pre .1)
+    omega (arith, n .accesses, l .ensures .0, e .ensures .0, l .kept .0, e .kept .0, x .exchange-separate-u32 .kept .1 .0, room x .0, room x .1)
 
 same-length : tie.Need-same-length
 same-length c = search needs
@@ -80,19 +76,16 @@ same-length-3 c = search needs
 
 returns : tie.Need-returns
 returns c =
-    let x = c .before .before .before .before .before .before .before .before .before .before .before .before .before .before .before .before .before .before .before .exchange-separate-u32 in
-    let a = c .before .before .before .before .before .before .before .before .before .before .before .before .before .before .before .before .before .before .before .before .before .before .before .before .before .before .before .args in
-    let log = x .last .1 .1 .1 .1 .1 .0 in
-    let read = x .last .1 .0 in
-    let left = x .ensures in
-    let n = exchange-counts 32 (a .driver) (a .read .now) (a .write .now) (a .budget) (a .script .now) (a .log .now) (x .result) log read left in
+    let x = c .before .before .before .before .before .before .before .before .before .before .before .before .before .before .before .before .before .before .before in
+    let n = counts x in
+    let a = x .before .before .before .before .before .before .before .before .args in
     let l = c .before .before .before .before .before .before .before .before .before .before .before .before .access-lines in
     let e = c .before .before .before .before .before .before .before .words in
     let r = c .before .before .result-line in
-    listed 32 (a .driver) (a .read .now) (a .write .now) (a .budget) (a .script .now) (a .log .now) (x .result) log read left
+    listed 32 (a .driver) (a .read .now) (a .write .now) (a .budget) (a .script .now) (a .log .now) (x .exchange-separate-u32 .result) (x .exchange-separate-u32 .last .1 .1 .1 .1 .1 .0) (x .exchange-separate-u32 .last .1 .0) (left x)
     (a .out .now) (l .last .0) (e .last .0) (r .last .0) (l .result) (e .result) (r .result) (c .before .before .before .number .result)
-    (x .kept .1 .1 .1 .1 .1 .0) (c .before .before .before .number .ensures) (l .ensures .0) (l .ensures .1) (e .ensures .0) (e .ensures .1)
-    (omega (arith, n .accesses, l .ensures .0, e .ensures .0, r .ensures .0, l .kept .0, e .kept .0, r .kept .0, x .kept .1 .0, c .before .before .before .before .before .before .before .before .before .before .before .before .before .before .before .before .before .before .before .before .before .before .before .before .before .before .before .pre .0, c .before .before .before .before .before .before .before .before .before .before .before .before .before .before .before .before .before .before .before .before .before .before .before .before .before .before .before .pre .1)) (r .ensures .1) (r .ensures .2)
+    (x .exchange-separate-u32 .kept .1 .1 .1 .1 .1 .0) (c .before .before .before .number .ensures) (l .ensures .0) (l .ensures .1) (e .ensures .0) (e .ensures .1)
+    (omega (arith, n .accesses, l .ensures .0, e .ensures .0, r .ensures .0, l .kept .0, e .kept .0, r .kept .0, x .exchange-separate-u32 .kept .1 .0, room x .0, room x .1)) (r .ensures .1) (r .ensures .2)
 
 pub list-u32-spec : {M : Type 1} → statement M
 list-u32-spec =

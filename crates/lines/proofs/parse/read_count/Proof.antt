@@ -1,6 +1,6 @@
 -- `read_count` meets its contract.
 -- Assumes nothing.
-use mathlib.Core.Path.{_≡_, sym, ap, _∙_}
+use mathlib.Core.Path.{sym, ap, _∙_}
 use borrow.Author.Tests.{le-leb, lt-leb}
 use Rattle.lines.specs.Parse.{numberAnswer}
 use borrow.Author.Needs.{needs}

@@ -1,8 +1,8 @@
 -- `read_elements` meets its contract. The loop's invariant: those that were read, with the fields that are left, are the line's.
 -- Assumes nothing.
 use Prim.Native.Nat.{ℕ, _+_, _-_, _<_, _≤_}
-use mathlib.Core.List.{List, [], _∷_, _++_}
-use mathlib.Core.Option.{Option, none, some}
+use mathlib.Core.List.{[], _∷_, _++_}
+use mathlib.Core.Option.{some}
 use mathlib.Core.Path.{_≡_, refl, sym, ap, ap₂, _∙_}
 use native.Mathlib.Numerals.{add-one}
 use native.Mathlib.Omega.{arith}
@@ -10,7 +10,7 @@ use borrow.Author.Tests.{lt-ltb, le-ltb}
 use lib.ListN.{length, take, drop, set, length-set, length-append}
 use lib.Seq.{take-suc-set, length-take-le}
 use Rattle.lines.specs.Text.{space, split}
-use Rattle.lines.specs.Grammar.{element, lineElements}
+use Rattle.lines.specs.Grammar.{lineElements}
 use Rattle.lines.specs.Parse.{numberAnswer}
 use Rattle.lines.proofs.TextLaws.{nonzero, before-end}
 use Rattle.lines.proofs.PartLaws.{later, fields}

@@ -1,14 +1,14 @@
 -- `read_first` meets its contract: the parts of the line, one after the other.
 -- Assumes nothing.
 use Prim.Native.Nat.{ℕ, _+_, _-_}
-use mathlib.Core.List.{List, [], _∷_}
+use mathlib.Core.List.{List, _∷_}
 use mathlib.Core.Path.{_≡_, sym, ap, _∙_}
 use lib.ListN.{take, drop}
 use lib.Seq.{length-take-le}
 use Rattle.lines.specs.Text.{space, split}
 use Rattle.lines.specs.Grammar.{header}
 use Rattle.lines.proofs.PartLaws.{later, first-part, next-part, no-part}
-use Rattle.lines.proofs.JobLaws.{four-fields}
+use Rattle.lines.proofs.TaskLaws.{four-fields}
 use borrow.Author.Needs.{needs}
 use Rattle.lines.proofs.parse.read_first.Statement.{statement}
 use Rattle.lines.proofs.parse.read_first.Tie as tie

@@ -5,7 +5,7 @@ use native.Mathlib.Omega.{arith}
 use Rattle.lines.specs.Text.{space, split}
 use Rattle.lines.specs.Grammar.{asked, askedWith}
 use Rattle.lines.specs.Parse.{headerAnswer}
-use Rattle.lines.proofs.JobLaws.{header-small, as-answers}
+use Rattle.lines.proofs.TaskLaws.{header-small, as-answers}
 use borrow.Author.Needs.{needs}
 use Rattle.lines.proofs.parse.read_lines.Statement.{statement}
 use Rattle.lines.proofs.parse.read_lines.Tie as tie

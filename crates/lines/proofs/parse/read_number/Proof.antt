@@ -1,12 +1,12 @@
 -- `read_number` meets its contract. The loop's invariant: with the digits that are left, it is the whole number.
 -- Assumes nothing.
 use Prim.Native.Nat.{ℕ, _+_, _-_, _*_, _^_, _<_, _≤_}
-use mathlib.Core.Option.{Option, none, some}
-use mathlib.Core.Path.{_≡_, refl, sym, ap, _∙_}
+use mathlib.Core.Option.{Option, some}
+use mathlib.Core.Path.{_≡_, sym, ap, _∙_}
 use native.Mathlib.Nat.{mul-le-mul-left}
 use native.Mathlib.Omega.{arith}
 use borrow.Author.Tests.{lt-ltb}
-use lib.ListN.{length, drop, getD}
+use lib.ListN.{length, drop}
 use Rattle.lines.specs.Text.{bind, numeralFrom, numeral}
 use Rattle.lines.specs.Grammar.{small}
 use Rattle.lines.specs.Parse.{numberAnswer}

@@ -1,16 +1,11 @@
 -- `read_rest` meets its contract.
 -- Assumes nothing.
-use Prim.Native.Nat.{ℕ}
-use mathlib.Core.List.{List}
-use mathlib.Core.Option.{Option, some}
-use mathlib.Core.Path.{_≡_, sym, ap, _∙_}
-use native.Mathlib.Omega.{arith}
-use lib.ListN.{take}
+use mathlib.Core.Path.{sym, ap, _∙_}
 use Rattle.lines.specs.declared.parse.Number.the-variants.{Value, Bad}
 use Rattle.lines.specs.Grammar.{count}
 use Rattle.lines.specs.Parse.{numberAnswer}
 use Rattle.lines.proofs.ElementLaws.{as-elements}
-use Rattle.lines.proofs.JobLaws.{at-most}
+use Rattle.lines.proofs.TaskLaws.{at-most}
 use borrow.Author.Needs.{needs}
 use Rattle.lines.proofs.parse.read_rest.Statement.{statement}
 use Rattle.lines.proofs.parse.read_rest.Tie as tie

@@ -1,10 +1,9 @@
 -- `access_line` meets its contract: what is put part by part.
 -- Assumes nothing.
-use mathlib.Core.List.{[], _∷_, _++_}
-use mathlib.Core.Path.{_≡_, refl, sym, ap, _∙_}
+use mathlib.Core.Path.{sym, ap, _∙_}
 use Prim.Native.Nat.{ℕ, _+_, _%_}
 use native.Mathlib.Omega.{arith}
-use Rattle.lines.specs.Text.{digits, newline, space}
+use Rattle.lines.specs.Text.{digits}
 use Rattle.lines.specs.Listing.{kind}
 use Rattle.lines.proofs.WrittenLaws.{written-then, length-digits}
 use Rattle.lines.proofs.ListingLaws.{length-kind}

@@ -1,12 +1,11 @@
 -- `access_lines` meets its contract. The loop's invariant: the lines of the accesses before stand there.
 -- Assumes nothing.
 use Prim.Native.Nat.{ℕ, _+_, _-_, _*_, _≤_}
-use mathlib.Core.List.{List, _++_}
-use mathlib.Core.Path.{_≡_, refl, sym, ap, ap₂, _∙_}
+use mathlib.Core.Path.{_≡_, refl, sym, ap, _∙_}
 use native.Mathlib.Omega.{arith}
-use lib.ListN.{length, take, getD}
+use lib.ListN.{length, take}
 use Rattle.lines.specs.Text.{written}
-use Rattle.lines.specs.Listing.{accessLine, accessLines}
+use Rattle.lines.specs.Listing.{accessLines}
 use Rattle.lines.proofs.WrittenLaws.{written-nothing, written-then}
 use Rattle.lines.proofs.ListingLaws.{accesses-more, length-accesses}
 use borrow.Author.Needs.{needs}

@@ -1,6 +1,5 @@
 -- `put` meets its contract.
 -- Assumes nothing.
-use native.Mathlib.Omega.{arith}
 use mathlib.Core.Path.{refl}
 use Rattle.lines.proofs.WrittenLaws.{written-byte}
 use borrow.Author.Needs.{needs}

@@ -1,10 +1,9 @@
 -- `result_line` meets its contract: what is put part by part.
 -- Assumes nothing.
-use Prim.Native.Nat.{ℕ, _+_}
+use Prim.Native.Nat.{_+_}
 use mathlib.Core.List.{[], _∷_, _++_}
-use mathlib.Core.Path.{_≡_, sym, ap, _∙_}
 use native.Mathlib.Omega.{arith}
-use lib.ListN.{length, length-append}
+use lib.ListN.{length-append}
 use Rattle.lines.specs.Text.{decimal, newline, space}
 use Rattle.lines.proofs.WrittenLaws.{written-then}
 use borrow.Author.Needs.{needs}

@@ -4,9 +4,9 @@ use Prim.Native.Nat.{ℕ, _+_, _*_, _-_, _<_, _≤_}
 use mathlib.Core.Path.{_≡_, refl, sym, ap, ap₂, subst, _∙_}
 use native.Mathlib.Omega.{arith}
 use lib.ListN.{length}
-use Rattle.machine.specs.declared.access.Access.{Access}
-use Rattle.machine.specs.declared.sequence.Sequence.{Sequence}
-use Rattle.machine.specs.Call.{callAccess, callAfter}
+use Rattle.sequences.specs.declared.access.Access.{Access}
+use Rattle.sequences.specs.declared.sequence.Sequence.{Sequence}
+use Rattle.sequences.specs.Call.{callAccess, callAfter}
 use Rattle.runs.specs.Run.{put, halted, endingOf}
 use Rattle.runs.proofs.DriveLaws.{uses-one}
 use Rattle.runs.proofs.LoopLaws.{at-start, at-next}

@@ -6,7 +6,7 @@ use mathlib.Core.Path.{_≡_, refl, sym, ap, ap₂, _∙_}
 use native.Mathlib.Omega.{arith}
 use lib.ListN.{length}
 use Rattle.machine.specs.declared.transfer.Transfer.{Transfer}
-use Rattle.machine.specs.declared.access.Access.{Access}
+use Rattle.sequences.specs.declared.access.Access.{Access}
 use Rattle.machine.specs.Transfer.{resumed}
 use Rattle.runs.specs.Run.{put, halted, endingOf}
 use Rattle.runs.specs.Drive.{Stands}

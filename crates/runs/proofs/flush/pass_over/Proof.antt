@@ -1,7 +1,6 @@
 -- `pass_over` meets its contract.
 -- Assumes nothing.
-use mathlib.Core.Path.{_≡_, sym, _∙_, subst}
-use mathlib.Core.List.{List}
+use mathlib.Core.Path.{sym, _∙_, subst}
 use native.Mathlib.Omega.{arith}
 use Rattle.machine.specs.declared.flush.Flush.{Flush}
 use Rattle.runs.specs.Flush.{FlushAt}

@@ -5,7 +5,7 @@ use mathlib.Core.Path.{_≡_, refl, sym, ap, subst, _∙_}
 use native.Mathlib.Omega.{arith}
 use Rattle.machine.specs.declared.transfer.Transfer.{Transfer}
 use Rattle.machine.specs.Transfer.{startTransfer, turnAt}
-use Rattle.runs.specs.Drive.{drivenBy, states, Stands}
+use Rattle.runs.specs.Drive.{drivenBy, wordsStates, Stands}
 use Rattle.runs.proofs.TurnLaws.{stands-commanded, stands-uncommanded}
 use borrow.Author.Needs.{needs}
 use Rattle.runs.proofs.transfer.run.Statement.{statement}
@@ -50,7 +50,7 @@ returns c =
     let rest : turnAt (t .result .side) (t .result .sent) (t .result .spot .received) begins ≡ c .before .before .before .before .before .before .before .at-turn .result = sym (c .before .before .before .before .before .before .before .at-turn .ensures ∙ ap (turnAt (t .result .side) (t .result .sent) (t .result .spot .received)) started) in
     c .before .before .before .before .drive .ensures begins (a .log .now) (a .words .now)
     (subst (λ (x : Transfer). Stands (a .frame) (a .script .now) (a .send .now) (a .log .now) (a .words .now) begins x (t .result .spot) (t .last .1 .1 .1 .1 .1 .0) (t .last .1 .1 .1 .1 .1 .1 .1 .0)) rest reached)
-    ∙ ap (λ (x : ℕ). drivenBy (a .log .now) (a .words .now) (states (a .frame) (a .script .now) (a .send .now) (a .words .now) (startTransfer (a .driver) x (a .count .send) (a .count .receive)) (a .budget))) (c .before .before .before .before .before .before .before .before .before .before .before .before .before .before .before .before .before .before .before .before .before .before .as-raw .ensures)
+    ∙ ap (λ (x : ℕ). drivenBy (a .log .now) (a .words .now) (wordsStates (a .frame) (a .script .now) (a .send .now) (a .words .now) (startTransfer (a .driver) x (a .count .send) (a .count .receive)) (a .budget))) (c .before .before .before .before .before .before .before .before .before .before .before .before .before .before .before .before .before .before .before .before .before .before .as-raw .ensures)
 
 drive-requires-2 : tie.Need-drive-requires-2
 drive-requires-2 c κs = search needs
@@ -70,7 +70,7 @@ returns-2 c =
     let first = stands-uncommanded (a .frame) (a .script .now) (a .send .now) (a .words .now) (a .log .now) (s .last .1 .1 .1 .0) (a .driver) (c .before .before .before .before .before .before .before .before .before .before .before .before .before .as-raw .result) (a .count .send) (a .count .receive) (s .result) (s .ensures .3) (c .before .before .before .before .before .before .before .if1 .left) in
     c .before .before .before .before .drive2 .ensures begins (a .log .now) (a .words .now)
     (subst (λ (x : Transfer). Stands (a .frame) (a .script .now) (a .send .now) (a .log .now) (a .words .now) begins x (s .result .spot) (s .last .1 .1 .1 .0) (a .words .now)) started first)
-    ∙ ap (λ (x : ℕ). drivenBy (a .log .now) (a .words .now) (states (a .frame) (a .script .now) (a .send .now) (a .words .now) (startTransfer (a .driver) x (a .count .send) (a .count .receive)) (a .budget))) (c .before .before .before .before .before .before .before .before .before .before .before .before .before .as-raw .ensures)
+    ∙ ap (λ (x : ℕ). drivenBy (a .log .now) (a .words .now) (wordsStates (a .frame) (a .script .now) (a .send .now) (a .words .now) (startTransfer (a .driver) x (a .count .send) (a .count .receive)) (a .budget))) (c .before .before .before .before .before .before .before .before .before .before .before .before .before .as-raw .ensures)
 
 pub run-spec : {M : Type 1} → statement M
 run-spec =

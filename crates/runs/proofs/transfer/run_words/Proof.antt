@@ -3,7 +3,7 @@
 use mathlib.Core.Path.{sym, ap, _∙_}
 use native.Mathlib.Omega.{arith}
 use Rattle.machine.specs.declared.transfer.Transfer.{Transfer}
-use Rattle.runs.specs.Drive.{drivenBy, states}
+use Rattle.runs.specs.Drive.{drivenBy, wordsStates}
 use Rattle.runs.proofs.DriveLaws.{stands-start, words-limits, words-run}
 use Rattle.runs.proofs.RunLaws.{room}
 use borrow.Author.Needs.{needs}
@@ -40,7 +40,7 @@ returns-2 c =
     let a = c .before .before .before .before .before .before .before .before .before .before .before .before .before .before .before .before .before .args in
     let t = c .before .before .before .before .before .before .before .start .result in
     c .before .before .before .before .drive .ensures t (a .log .now) (a .words .now) (stands-start (a .frame) (a .script .now) (a .send .now) (a .log .now) (a .words .now) t)
-    ∙ ap (λ (x : Transfer). drivenBy (a .log .now) (a .words .now) (states (a .frame) (a .script .now) (a .send .now) (a .words .now) x (a .budget))) (c .before .before .before .before .before .before .before .start .ensures)
+    ∙ ap (λ (x : Transfer). drivenBy (a .log .now) (a .words .now) (wordsStates (a .frame) (a .script .now) (a .send .now) (a .words .now) x (a .budget))) (c .before .before .before .before .before .before .before .start .ensures)
     ∙ words-run (a .driver) (a .transaction .0) (a .count) (a .frame) (a .budget) (a .script .now) (a .send .now) (a .log .now) (a .words .now) (sym (c .before .before .before .before .before .before .before .before .before .before .before .limits .ensures) ∙ c .before .before .before .before .before .before .before .before .before .before .if1 .left)
 
 run-requires : tie.Need-run-requires

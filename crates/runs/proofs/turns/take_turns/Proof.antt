@@ -1,7 +1,6 @@
 -- `take_turns` meets its contract. The loop's invariant: what it holds is what the run has after as many accesses.
 -- Assumes nothing.
 use Prim.Native.Nat.{ℕ, _-_}
-use mathlib.Core.List.{List}
 use mathlib.Core.Path.{_≡_, refl, sym, subst, _∙_}
 use native.Mathlib.Omega.{arith}
 use lib.ListN.{length}

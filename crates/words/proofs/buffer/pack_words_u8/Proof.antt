@@ -4,7 +4,6 @@ use Prim.Native.Nat.{ℕ, _≤_, _<_, _*_}
 use mathlib.Core.List.{List}
 use mathlib.Core.Path.{_≡_, refl, ap, _∙_}
 use native.Mathlib.Omega.{arith}
-use lib.ListN.{length}
 use Rattle.words.specs.Word.{laid}
 use Rattle.words.specs.Buffer.{wordAt, wordCount}
 use Rattle.words.proofs.BufferLaws.{store-stop, words-prefix}

@@ -1,6 +1,6 @@
 -- `unpack_words_u8` meets its contract. The loop's invariant: the elements of the words so far are laid.
 -- Assumes nothing.
-use Prim.Native.Nat.{ℕ, _≤_, _*_, _-_}
+use Prim.Native.Nat.{_≤_, _*_, _-_}
 use mathlib.Core.Path.{_≡_, refl, _∙_}
 use native.Mathlib.Nat.{min-le-left}
 use native.Mathlib.Numerals.{add-one-le}

@@ -1,6 +1,5 @@
 -- `element_u32` meets its contract: the element or the dummy.
 -- Assumes nothing.
-use native.Mathlib.Omega.{arith}
 use mathlib.Core.Path.{sym}
 use lib.ListN.{List·getD-eq-default}
 use Rattle.words.proofs.BufferLaws.{within}

@@ -155,19 +155,15 @@ fn limits(directed: &mut Directed) {
                 assert_eq!((left.number, left.accesses), (number, MAX_BUDGET));
             }
         }
-        // A clock of 0 is looked at later, a frame size before.
-        let with_zero = match entry.name {
-            "enqueue_transaction" => 1,
-            _ => 5,
-        };
+        // A clock or a frame size of 0 is looked at later.
         for (budget, log_len) in REFUSED {
-            for (a, number) in [(valid.0, 5), (0, with_zero)] {
+            for a in [valid.0, 0] {
                 let limits = Limits {
                     budget,
                     log_len,
                     script: script(entry, false, 0),
                 };
-                assert_eq!(directed.run(entry, (a, valid.1), limits).number, number);
+                assert_eq!(directed.run(entry, (a, valid.1), limits).number, 5);
             }
         }
     }

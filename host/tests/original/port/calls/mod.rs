@@ -10,7 +10,7 @@ use crate::common::branches::{Table, RECOVERY};
 use crate::common::registers::PARAM;
 use crate::common::run::{found, Left, Limits};
 use lpspi_host::{raw, Driver};
-use original::{run, Call, ClockConfigs, Direction, Failure, Outcome, Value};
+use original::{run, Call, ClockConfigs, Direction, Outcome, Value};
 use std::fmt::{self, Debug, Formatter};
 
 /// The C function of a call.
@@ -202,17 +202,10 @@ impl Case {
 
     /// The number that the scope document gives before the first access.
     fn refusal(&self) -> Option<u32> {
-        let call = self.call();
-        // The command is made before the run: 1 comes before 5.
-        if matches!(call, Call::EnqueueTransaction { .. })
-            && self.original(0, &mut []).result == Err(Failure::FrameSize)
-        {
-            return Some(1);
-        }
         if self.limits.refused() {
             return Some(5);
         }
-        let zero = matches!(call, Call::SetClockHz { .. }) && (self.a == 0 || self.b == 0);
+        let zero = matches!(self.call(), Call::SetClockHz { .. }) && (self.a == 0 || self.b == 0);
         zero.then_some(6)
     }
 

@@ -1,6 +1,5 @@
 -- `Fifo::first` meets its contract.
 -- Assumes nothing.
-use borrow.Author.Tests.{eq-eqb, ne-eqb}
 use Rattle.bus.proofs.HeldLaws.{first-queue}
 use borrow.Author.Needs.{needs}
 use Rattle.bus.proofs.fifo.Fifo.first.Statement.{statement}

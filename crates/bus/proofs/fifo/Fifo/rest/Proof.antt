@@ -1,6 +1,5 @@
 -- `Fifo::rest` meets its contract.
 -- Assumes nothing.
-use mathlib.Core.Path.{_≡_, refl, sym, ap, ap₂, _∙_}
 use native.Mathlib.Omega.{arith}
 use Rattle.bus.proofs.HeldLaws.{rest-queue}
 use borrow.Author.Needs.{needs}

@@ -1,6 +1,5 @@
 -- `Port::after_read` meets its contract.
 -- Assumes nothing.
-use mathlib.Core.Path.{_≡_, refl, sym, ap, ap₂, _∙_}
 use borrow.Author.Needs.{needs}
 use Rattle.bus.proofs.port.Port.after_read.Statement.{statement}
 use Rattle.bus.proofs.port.Port.after_read.Tie as tie

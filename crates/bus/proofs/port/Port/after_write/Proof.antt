@@ -1,6 +1,5 @@
 -- `Port::after_write` meets its contract.
 -- Assumes nothing.
-use mathlib.Core.Path.{_≡_, refl, sym, ap, ap₂, _∙_}
 use borrow.Author.Needs.{needs}
 use Rattle.bus.proofs.port.Port.after_write.Statement.{statement}
 use Rattle.bus.proofs.port.Port.after_write.Tie as tie

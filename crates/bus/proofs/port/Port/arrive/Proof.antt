@@ -1,10 +1,10 @@
 -- `Port::arrive` meets its contract.
 -- Assumes nothing.
-use mathlib.Core.Path.{_≡_, refl, sym, ap, ap₂, _∙_}
+use mathlib.Core.Path.{sym, ap, _∙_}
 use mathlib.Core.List.{List}
 use Prim.Native.Nat.{ℕ}
 use Rattle.bus.specs.End.{queues}
-use Rattle.bus.specs.Held.{queueOf, wireOf}
+use Rattle.bus.specs.View.{queueOf, wireOf}
 use Rattle.bus.proofs.HeldLaws.{room}
 use borrow.Author.Needs.{needs}
 use Rattle.bus.proofs.port.Port.arrive.Statement.{statement}

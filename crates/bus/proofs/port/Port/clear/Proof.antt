@@ -1,6 +1,6 @@
 -- `Port::clear` meets its contract.
 -- Assumes nothing.
-use Rattle.bus.specs.Held.{queueOf}
+use Rattle.bus.specs.View.{queueOf}
 use lib.Dec.{eqb}
 use Prim.Native.Nat.{ℕ}
 use mathlib.Core.Bool.{Bool, false, cond}

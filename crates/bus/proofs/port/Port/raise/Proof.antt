@@ -1,6 +1,5 @@
 -- `Port::raise` meets its contract.
 -- Assumes nothing.
-use mathlib.Core.Path.{_≡_, refl, sym, ap, _∙_}
 use borrow.Author.Needs.{needs}
 use Rattle.bus.proofs.port.Port.raise.Statement.{statement}
 use Rattle.bus.proofs.port.Port.raise.Tie as tie

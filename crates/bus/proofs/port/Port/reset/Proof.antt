@@ -1,15 +1,15 @@
 -- `Port::reset` meets its contract.
 -- Assumes nothing.
 use Rattle.bus.specs.End.{emptiedIf}
-use Rattle.bus.specs.Held.{queueOf}
+use Rattle.bus.specs.View.{queueOf}
 use lib.Dec.{eqb}
 use mathlib.Core.List.{List}
 use Prim.Native.Nat.{ℕ}
 use Rattle.manual.specs.declared.Field.the-variants.{Cr}
-use Rattle.manual.specs.declared.Cr.the-variants.{RST, RTF, RRF}
+use Rattle.manual.specs.declared.Cr.the-variants.{RST}
 use Rattle.manual.specs.Manual.{readField}
 use borrow.Author.Tests.{eq-eqb, ne-eqb}
-use mathlib.Core.Path.{_≡_, refl, sym, ap, ap₂, _∙_}
+use mathlib.Core.Path.{_≡_, sym, ap, ap₂, _∙_}
 use borrow.Author.Needs.{needs}
 use Rattle.bus.proofs.port.Port.reset.Statement.{statement}
 use Rattle.bus.proofs.port.Port.reset.Tie as tie

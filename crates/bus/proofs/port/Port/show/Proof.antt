@@ -1,7 +1,6 @@
 -- `Port::show` meets its contract.
 -- Assumes nothing.
 use lib.Seq.{length-take-le}
-use lib.ListN.{length}
 use native.Mathlib.Omega.{arith}
 use Prim.Native.Nat.{ℕ}
 use Rattle.manual.specs.declared.Fsr.the-variants.{TXCOUNT, RXCOUNT}
@@ -9,7 +8,7 @@ use Rattle.manual.specs.declared.Sr.the-variants.{TEF, REF, MBF}
 use Rattle.manual.specs.declared.Param.the-variants.{RXFIFO}
 use Rattle.manual.specs.declared.Field.the-variants.{Param, Sr, Fsr}
 use Rattle.manual.specs.Manual.{setField}
-use mathlib.Core.Path.{_≡_, refl, sym, ap, ap₂, _∙_}
+use mathlib.Core.Path.{sym, ap, ap₂, _∙_}
 use borrow.Author.Needs.{needs}
 use Rattle.bus.proofs.port.Port.show.Statement.{statement}
 use Rattle.bus.proofs.port.Port.show.Tie as tie

@@ -1,10 +1,10 @@
 -- `Port::without_first` meets its contract.
 -- Assumes nothing.
-use mathlib.Core.Path.{_≡_, refl, sym, ap, ap₂, _∙_}
+use mathlib.Core.Path.{ap}
 use mathlib.Core.List.{List}
 use Prim.Native.Nat.{ℕ}
 use Rattle.bus.specs.End.{queues}
-use Rattle.bus.specs.Held.{queueOf, wireOf}
+use Rattle.bus.specs.View.{queueOf, wireOf}
 use borrow.Author.Needs.{needs}
 use Rattle.bus.proofs.port.Port.without_first.Statement.{statement}
 use Rattle.bus.proofs.port.Port.without_first.Tie as tie

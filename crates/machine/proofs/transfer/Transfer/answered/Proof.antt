@@ -68,14 +68,8 @@ standing-requires-6 c κs = search needs
 enum-known-phase-4 : tie.Need-enum-known-phase-4
 enum-known-phase-4 c = search needs
 
-place-requires : tie.Need-place-requires
-place-requires c κs = search needs
-
-recovery-move-requires : tie.Need-recovery-move-requires
-recovery-move-requires c κs = search needs
-
-after-requires : tie.Need-after-requires
-after-requires c κs = search needs
+recovery-after-requires : tie.Need-recovery-after-requires
+recovery-after-requires c κs = search needs
 
 after-recovery-requires : tie.Need-after-recovery-requires
 after-recovery-requires c κs = search needs
@@ -115,7 +109,7 @@ returns-6 c = simp (c .before .before .before .enum-told3 .given .1, c .before .
 
 returns-7 : tie.Need-returns-7
 unfolding resumed
-returns-7 c = simp (c .before .before .before .before .before .before .phase4 .given .1, c .before .before .before .before .place .ensures, c .before .before .before .recovery-move .ensures, c .before .before .after .ensures, c .before .after-recovery .ensures, c .standing7 .ensures)
+returns-7 c = simp (c .before .before .before .before .phase4 .given .1, c .before .before .recovery-after .ensures, c .before .after-recovery .ensures, c .standing7 .ensures)
 
 returns-8 : tie.Need-returns-8
 unfolding resumed
@@ -146,9 +140,7 @@ answered-spec =
     receive-turn-requires
     standing-requires-6
     enum-known-phase-4
-    place-requires
-    recovery-move-requires
-    after-requires
+    recovery-after-requires
     after-recovery-requires
     standing-requires-7
     enum-known-phase-5

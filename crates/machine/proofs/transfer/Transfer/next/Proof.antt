@@ -35,14 +35,8 @@ enum-told-3 c = search needs
 enum-told-4 : tie.Need-enum-told-4
 enum-told-4 c = search needs
 
-place-requires : tie.Need-place-requires
-place-requires c κs = search needs
-
-recovery-move-requires : tie.Need-recovery-move-requires
-recovery-move-requires c κs = search needs
-
-access-requires : tie.Need-access-requires
-access-requires c κs = search needs
+recovery-access-requires : tie.Need-recovery-access-requires
+recovery-access-requires c κs = search needs
 
 enum-known-phase-4 : tie.Need-enum-known-phase-4
 enum-known-phase-4 c = search needs
@@ -73,7 +67,7 @@ returns-6 c = simp (c .enum-told3 .given .1)
 
 returns-7 : tie.Need-returns-7
 unfolding dueAccess
-returns-7 c = simp (c .before .before .before .before .enum-told4 .given .1, c .before .before .place .ensures, c .before .recovery-move .ensures, c .access .ensures)
+returns-7 c = simp (c .before .before .enum-told4 .given .1, c .recovery-access .ensures)
 
 returns-8 : tie.Need-returns-8
 unfolding dueAccess
@@ -93,9 +87,7 @@ next-spec =
     poll-access-requires-3
     enum-told-3
     enum-told-4
-    place-requires
-    recovery-move-requires
-    access-requires
+    recovery-access-requires
     enum-known-phase-4
     returns
     returns-2

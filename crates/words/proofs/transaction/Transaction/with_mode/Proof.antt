@@ -25,7 +25,7 @@ returns : tie.Need-returns
 returns c =
     let word = c .before .before .before .before .args .self .0 in
     c .set2 .ensures
-    ∙ ap₂ (setField (Tcr CPOL)) (c .before .cpol .ensures) (c .before .before .set .ensures ∙ ap (λ (v : ℕ). setField (Tcr CPHA) v word) (c .before .before .before .cpha .ensures))
+    ∙ ap₂ (setField (Tcr CPOL)) (c .before .cpol .ensures .0) (c .before .before .set .ensures ∙ ap (λ (v : ℕ). setField (Tcr CPHA) v word) (c .before .before .before .cpha .ensures .0))
 
 pub with-mode-spec : {M : Type 1} → statement M
 with-mode-spec =

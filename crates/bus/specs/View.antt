@@ -1,0 +1,27 @@
+-- What an end's state means: the code's FIFOs as queues, its port as a wire, and what of an end can be seen.
+-- Assumes nothing.
+use Prim.Native.Nat.{ℕ}
+use mathlib.Core.List.{List}
+use lib.ListN.{take}
+use Rattle.bus.specs.declared.fifo.Fifo.{Fifo}
+use Rattle.bus.specs.declared.port.Port.{Port}
+use Rattle.bus.specs.declared.station.Station.{Station}
+use Rattle.bus.specs.declared.trial.EndState.{EndState}
+use Rattle.bus.specs.End.{Wire}
+use Rattle.bus.specs.Agreement.{Seen}
+
+-- a FIFO's queue: of its places those that it counts, the first word first
+abbrev pub queueOf : Fifo → List ℕ
+queueOf f = take (f .count) (f .words)
+
+-- "Each end has transmit and receive queues", and flags T and R
+abbrev pub wireOf : Port → Wire
+wireOf p = record { transmit = queueOf (p .transmit); receive = queueOf (p .receive); t = p .t; r = p .r }
+
+-- an end, with its registers: all of it that can be seen
+abbrev pub stationSeen : Station → List ℕ → Seen
+stationSeen s registers = record { transfer = s .transfer; flush = s .flush; wire = wireOf (s .port); registers = registers }
+
+-- of an end that a trial answers
+abbrev pub stateOf : EndState → Seen
+stateOf x = stationSeen (x .station) (x .registers)

@@ -1,0 +1,20 @@
+-- `fifo_reset` meets its contract: each branch is the definition's.
+-- Assumes nothing.
+use borrow.Author.Needs.{needs}
+use Rattle.sequences.proofs.sequence.fifo_reset.Statement.{statement}
+use Rattle.sequences.proofs.sequence.fifo_reset.Tie as tie
+
+enum-told : tie.Need-enum-told
+enum-told c = search needs
+
+enum-told-2 : tie.Need-enum-told-2
+enum-told-2 c = search needs
+
+returns : tie.Need-returns
+returns c = simp (c .enum-told .given .1)
+
+returns-2 : tie.Need-returns-2
+returns-2 c = simp (c .enum-told2 .given .1)
+
+pub fifo-reset-spec : {M : Type 1} → statement M
+fifo-reset-spec = tie.close (tie.spec enum-told enum-told-2 returns returns-2)

@@ -1,0 +1,82 @@
+//! Every public function of every library has a contract, and demands nothing of its caller.
+//!
+//! The prover checks what a contract says; that there is one, and that no public one has a `requires`, is read off the sources here.
+
+use std::fs;
+use std::path::{Path, PathBuf};
+
+fn sources(folder: &Path, found: &mut Vec<PathBuf>) {
+    for entry in fs::read_dir(folder).unwrap() {
+        let path = entry.unwrap().path();
+        if path.is_dir() {
+            sources(&path, found);
+        } else if path.extension().is_some_and(|e| e == "rt") {
+            found.push(path);
+        }
+    }
+}
+
+/// The signature and contract of each public function: what stands before its body.
+fn public_functions(text: &str) -> Vec<String> {
+    let lines: Vec<&str> = text
+        .lines()
+        .map(|line| line.split("//").next().unwrap().trim_end())
+        .collect();
+    let public = |line: &str| {
+        let line = line.trim_start();
+        line.starts_with("pub fn ") || line.starts_with("pub extern \"C\" fn ")
+    };
+    let mut functions = Vec::new();
+    for (i, line) in lines.iter().enumerate() {
+        if public(line) {
+            let end = (i..lines.len())
+                .find(|&j| {
+                    lines[j].trim() == "{" || (lines[j].ends_with('{') && !lines[j].contains('⌜'))
+                })
+                .expect("a body");
+            functions.push(lines[i..end].join("\n"));
+        }
+    }
+    functions
+}
+
+#[test]
+fn public_functions_have_contracts() {
+    let crates = Path::new(env!("CARGO_MANIFEST_DIR")).join("../crates");
+    let mut files = Vec::new();
+    for entry in fs::read_dir(&crates).unwrap() {
+        let source = entry.unwrap().path().join("src");
+        if source.join("lib.rt").exists() {
+            sources(&source, &mut files);
+        }
+    }
+    let mut seen = 0;
+    for file in files {
+        for function in public_functions(&fs::read_to_string(&file).unwrap()) {
+            seen += 1;
+            assert!(
+                function.contains("ensures"),
+                "{}: no contract: {function}",
+                file.display()
+            );
+            assert!(
+                !function.contains("requires"),
+                "{}: a demand on the caller: {function}",
+                file.display()
+            );
+        }
+    }
+    assert!(seen > 100, "only {seen} public functions were found");
+}
+
+#[test]
+fn a_missing_contract_is_seen() {
+    let found = public_functions("pub fn f(a: u8) -> u8\n{\n    a\n}\n\nfn g() {\n}\n\npub extern \"C\" fn h(a: u8)\n    requires { ⌜ a ≡ 0 ⌝ }\n{\n}\n");
+    assert_eq!(
+        found,
+        [
+            "pub fn f(a: u8) -> u8",
+            "pub extern \"C\" fn h(a: u8)\n    requires { ⌜ a ≡ 0 ⌝ }"
+        ]
+    );
+}
