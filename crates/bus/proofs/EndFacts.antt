@@ -156,7 +156,7 @@ module _ (n : ℕ) (accepts : Bool) (j : Job) (other : ℕ → ℕ) where
     pub base : Base t τ (x .wire)
     pub now : Now (x .transfer .phase) (x .flush) t c m τ (x .transfer .work) (x .received) (x .wire)
 
-  -- NO STEP OVERRUNS the transmit queue
+  -- A QUIET ACCESS, of a poll or a recovery, does not overrun the transmit queue
   quiet-fits : (a : Access) (w : Wire) → Quiet a → overrun (j .exponent) a w ≡ false
   quiet-fits (Read r) w h = refl
   quiet-fits (Write r v) w h = by-role (roleOf r) h

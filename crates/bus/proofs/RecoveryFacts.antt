@@ -3,6 +3,7 @@
 use Prim.Native.Nat.{ℕ, zero, suc}
 use mathlib.Core.Bool.{Bool, true, false, _&&_}
 use mathlib.Core.List.{List, [], _∷_}
+use mir.Facts.{and-yes}
 use lib.Dec.{T}
 use lib.ListN.{getD}
 use Rattle.manual.specs.declared.Register.the-variants.{SR}
@@ -87,13 +88,10 @@ abbrev allQuiet : List Move → Bool
 allQuiet [] = true
 allQuiet (m ∷ ms) = quietMove m && allQuiet ms
 
-both : (a b : Bool) → T (a && b) → T a × T b
-both true true h = (tt, tt)
-
 quiet-at : (ms : List Move) (d : Move) (i : ℕ) → T (allQuiet ms) → T (quietMove d) → T (quietMove (getD ms i d))
 quiet-at [] d i h hd = hd
-quiet-at (m ∷ ms) d zero h hd = both (quietMove m) (allQuiet ms) h .0
-quiet-at (m ∷ ms) d (suc i) h hd = quiet-at ms d i (both (quietMove m) (allQuiet ms) h .1) hd
+quiet-at (m ∷ ms) d zero h hd = and-yes (quietMove m) (allQuiet ms) h .0
+quiet-at (m ∷ ms) d (suc i) h hd = quiet-at ms d i (and-yes (quietMove m) (allQuiet ms) h .1) hd
 
 table-quiet : T (allQuiet recovery)
 unfolding quietMove

@@ -39,7 +39,7 @@ fn is_full(fifo: Fifo, exponent: usize) -> bool
     capacity(exponent) <= fifo.count
 }
 
-// A flag, or cleared.
+// A flag after a write that may clear it.
 fn lowered(clear: bool, on: bool) -> bool
     ensures { λ r. ⌜ r ≡ cond clear false on ⌝ }
 {
@@ -49,7 +49,7 @@ fn lowered(clear: bool, on: bool) -> bool
     on
 }
 
-// A FIFO, or nothing in it.
+// A FIFO after a write that may empty it.
 fn emptied_if(empty: bool, fifo: Fifo) -> Fifo
     requires { ⌜ Sized fifo ⌝ }
     ensures { λ r. ⌜ Sized r × (queueOf r ≡ emptiedIf empty (queueOf fifo)) ⌝ }

@@ -190,7 +190,6 @@ pub(crate) fn step(
 }
 
 impl Station {
-    // With another port.
     pub(crate) fn with_port(self, port: Port) -> Self
         ensures { λ r. ⌜ (r .transfer ≡ self .transfer) × (r .flush ≡ self .flush) × (r .received ≡ self .received) × (r .port ≡ port) ⌝ }
     {
@@ -204,7 +203,7 @@ impl Station {
         }
     }
 
-    // Noise.
+    // Noise sets a flag.
     pub(crate) fn noise(self, direction: Direction) -> Self
         requires { ⌜ Roomy (self .port) ⌝ }
         ensures { λ r. ⌜ Roomy (r .port) × (r .received ≡ self .received) × ((words registers : List ℕ) → endOf r words registers ≡ rewired (raised direction) (endOf self words registers)) ⌝ }

@@ -1,401 +1,52 @@
-// Runs over a script and prints them as document 01's `buslog` does: the accesses, the read elements, then result, accesses made and answers
-// used.
-use libc::STDOUT_FILENO;
-use runs::flush::flush;
-use runs::result::RunResult;
-use sequences::driver::Lpspi;
-use transfers::exchange::exchange_u8;
-use transfers::exchange::exchange_u16;
-use transfers::exchange::exchange_u32;
-use transfers::exchange_separate::exchange_separate_u8;
-use transfers::exchange_separate::exchange_separate_u16;
-use transfers::read_no_write::read_no_write_u8;
-use transfers::read_no_write::read_no_write_u16;
-use transfers::read_no_write::read_no_write_u32;
-use transfers::write_no_read::write_no_read_u8;
-use transfers::write_no_read::write_no_read_u16;
-use transfers::write_no_read::write_no_read_u32;
-use words::order::BitOrder;
+// Runs of transfers, flush and the other calls over scripts, printed.
+mod answers;
+mod data;
+mod disabled;
+mod exchanges;
+mod fifos;
+mod limits;
+mod print;
+mod resets;
+mod status;
 
-fn text(bytes: &[u8]) {
-    io::write_all(STDOUT_FILENO, bytes);
-}
-
-// A hexadecimal digit, in capitals.
-fn digit(n: u32) -> u8 {
-    let d = (n % 16) as u8;
-    if d < 10 { 48 + d } else { 55 + d }
-}
-
-fn two_digits(n: u32) {
-    let digits = [digit(n / 0x10), digit(n)];
-    text(&digits);
-}
-
-fn four_digits(n: u32) {
-    two_digits(n / 0x100);
-    two_digits(n);
-}
-
-fn eight_digits(n: u32) {
-    four_digits(n / 0x1_0000);
-    four_digits(n);
-}
-
-fn access(at: u32, value: u32) {
-    if at < 0x1000 {
-        text(b"R ");
-    } else {
-        text(b"W ");
-    }
-    two_digits(at);
-    text(b" ");
-    eight_digits(value);
-    text(b"\n");
-}
-
-fn accesses(log: &[u32], made: usize) {
-    for i in 0..made {
-        if i < log.len() / 2 {
-            access(log[2 * i], log[2 * i + 1]);
-        }
-    }
-}
-
-fn result(r: RunResult) {
-    let ending = r.ending;
-    io::print_decimal(STDOUT_FILENO, ending.number() as u64);
-    text(b" ");
-    io::print_decimal(STDOUT_FILENO, r.accesses as u64);
-    text(b" ");
-    io::print_decimal(STDOUT_FILENO, r.answers as u64);
-    text(b"\n");
-}
-
-fn byte(b: u8) {
-    two_digits(b as u32);
-    text(b"\n");
-}
-
-fn bytes(read: &[u8]) {
-    for i in 0..read.len() {
-        byte(read[i]);
-    }
-}
-
-// Document 01's example.
-fn show_example() {
-    text(b"exchange of A5, all ready\n");
-    let script = [0u32, 0x404, 0, 0, 0x404, 0, 0, 0x404, 0x10000, 0x5A];
-    let mut log = [0u32; 40];
-    let mut read = [0u8; 1];
-    let r = exchange_separate_u8(Lpspi::new(), &mut read, &[0xA5u8], 20, &script, &mut log);
-    accesses(&log, r.accesses);
-    bytes(&read);
-    result(r);
-}
-
-// A receive error after the command: the recovery keeps eight registers and MEN, waits until MEN reads 0, and writes them back.
-fn show_recovery(budget: usize) {
-    let script = [
-        0u32,
-        0x404,
-        0,
-        0,
-        0x404,
-        0,
-        0x1000,
-        0x11,
-        0x22,
-        0x33,
-        0x44,
-        0x55,
-        0x66,
-        0x0707_070E,
-        0x88,
-        1,
-        1,
-        3,
-        2,
-        2,
-        0,
-        0,
-    ];
-    let mut log = [0u32; 80];
-    let mut read = [0x77u8; 1];
-    let r = exchange_separate_u8(
-        Lpspi::new(),
-        &mut read,
-        &[0xA5u8],
-        budget,
-        &script,
-        &mut log,
-    );
-    accesses(&log, r.accesses);
-    bytes(&read);
-    result(r);
-}
-
-// In place: the second word comes in before its place is sent, so it goes out as received, cut to its one byte.
-fn show_in_place() {
-    text(b"exchange in place of 01 02 03 04 05\n");
-    let script = [
-        0u32,
-        0x404,
-        0,
-        0,
-        0x404,
-        0,
-        0,
-        0x404,
-        4,
-        0,
-        0x404,
-        0x20000,
-        0xAABB_CCDD,
-        0,
-        0x404,
-        0x10000,
-        0x1122_3344,
-        0,
-        0x404,
-        0,
-    ];
-    let mut log = [0u32; 80];
-    let mut buf = [1u8, 2, 3, 4, 5];
-    let r = exchange_u8(Lpspi::new(), &mut buf, 40, &script, &mut log);
-    accesses(&log, r.accesses);
-    bytes(&buf);
-    result(r);
-}
-
-// Buffers of unequal lengths: the missing elements are sent as dummies.
-fn show_halves() {
-    text(b"exchange of 1122 for three halves, LSB\n");
-    let script = [
-        0u32,
-        0x404,
-        0,
-        0,
-        0x404,
-        0,
-        0,
-        0x404,
-        0,
-        0,
-        0x404,
-        0x10000,
-        0x3344_1122,
-        0,
-        0x404,
-        0x10000,
-        0x5566,
-    ];
-    let mut log = [0u32; 80];
-    let mut read = [0u16; 3];
-    let driver = Lpspi::new().with_bit_order(BitOrder::Lsb);
-    let r = exchange_separate_u16(driver, &mut read, &[0x1122u16], 40, &script, &mut log);
-    accesses(&log, r.accesses);
-    half(read[0]);
-    half(read[1]);
-    half(read[2]);
-    result(r);
-}
-
-fn half(h: u16) {
-    four_digits(h as u32);
-    text(b"\n");
-}
-
-fn word(w: u32) {
-    eight_digits(w);
-    text(b"\n");
-}
-
-fn show_exchange_in_place() {
-    let script = [0u32, 0x404, 0, 0, 0x404, 0, 0, 0x404, 0x10000, 0x5566_7788];
-    let mut log = [0u32; 40];
-    text(b"exchange in place of 1122 3344\n");
-    let mut halves = [0x1122u16, 0x3344];
-    let r = exchange_u16(Lpspi::new(), &mut halves, 20, &script, &mut log);
-    accesses(&log, r.accesses);
-    half(halves[0]);
-    half(halves[1]);
-    result(r);
-    text(b"exchange in place of A0B0C0D0\n");
-    let mut words = [0xA0B0_C0D0u32];
-    let r = exchange_u32(Lpspi::new(), &mut words, 20, &script, &mut log);
-    accesses(&log, r.accesses);
-    word(words[0]);
-    result(r);
-}
-
-fn show_write() {
-    let script = [0u32, 0x404, 0, 0, 0x404, 0, 0, 0x404, 0];
-    let mut log = [0u32; 40];
-    text(b"write of 11 22 33\n");
-    let r = write_no_read_u8(Lpspi::new(), &[0x11u8, 0x22, 0x33], 20, &script, &mut log);
-    accesses(&log, r.accesses);
-    result(r);
-    text(b"write of 1122 3344 5566\n");
-    let r = write_no_read_u16(
-        Lpspi::new(),
-        &[0x1122u16, 0x3344, 0x5566],
-        20,
-        &script,
-        &mut log,
-    );
-    accesses(&log, r.accesses);
-    result(r);
-    text(b"write of DEADBEEF\n");
-    let r = write_no_read_u32(Lpspi::new(), &[0xDEAD_BEEFu32], 20, &script, &mut log);
-    accesses(&log, r.accesses);
-    result(r);
-}
-
-fn show_read() {
-    let script = [0u32, 0x404, 0, 0, 0x404, 0x10000, 0xDE11_2233];
-    let mut log = [0u32; 40];
-    text(b"read of three bytes\n");
-    let mut read = [0u8; 3];
-    let r = read_no_write_u8(Lpspi::new(), &mut read, 20, &script, &mut log);
-    accesses(&log, r.accesses);
-    bytes(&read);
-    result(r);
-    text(b"read of one half\n");
-    let mut read = [0u16; 1];
-    let r = read_no_write_u16(Lpspi::new(), &mut read, 20, &script, &mut log);
-    accesses(&log, r.accesses);
-    half(read[0]);
-    result(r);
-    text(b"read of one word\n");
-    let mut read = [0u32; 1];
-    let r = read_no_write_u32(Lpspi::new(), &mut read, 20, &script, &mut log);
-    accesses(&log, r.accesses);
-    word(read[0]);
-    result(r);
-}
-
-// A write buffer that is longer: a 1-byte read of a 4-byte word takes the highest byte.
-fn show_short_read() {
-    text(b"exchange of 01 02 03 04 for one byte\n");
-    let script = [0u32, 0x404, 0, 0, 0x404, 0, 0, 0x404, 0x10000, 0x1122_3344];
-    let mut log = [0u32; 40];
-    let mut read = [0u8; 1];
-    let r = exchange_separate_u8(
-        Lpspi::new(),
-        &mut read,
-        &[1u8, 2, 3, 4],
-        20,
-        &script,
-        &mut log,
-    );
-    accesses(&log, r.accesses);
-    bytes(&read);
-    result(r);
-}
-
-// A receive error after one word came in; the script ends where the recovery begins.
-fn show_error_after_a_word() {
-    text(b"exchange of A5 for eight bytes, an error after the first word\n");
-    let script = [
-        0u32,
-        0x404,
-        0,
-        0,
-        0x404,
-        0,
-        0,
-        0x404,
-        0,
-        0,
-        0x404,
-        0x10000,
-        0x1122_3344,
-        0x1000,
-    ];
-    let mut log = [0u32; 80];
-    let mut read = [0x77u8; 8];
-    let r = exchange_separate_u8(Lpspi::new(), &mut read, &[0xA5u8], 40, &script, &mut log);
-    accesses(&log, r.accesses);
-    bytes(&read);
-    result(r);
-}
-
-// A transmit error after the command, with its recovery.
-fn show_transmit_error() {
-    text(b"a transmit error after the command\n");
-    let script = [
-        0u32,
-        0x404,
-        0,
-        0x800,
-        0x11,
-        0x22,
-        0x33,
-        0x44,
-        0x55,
-        0x66,
-        0x0707_070E,
-        0x88,
-        1,
-        1,
-        2,
-        2,
-        0,
-        0,
-    ];
-    let mut log = [0u32; 80];
-    let r = write_no_read_u8(Lpspi::new(), &[0xA5u8], 40, &script, &mut log);
-    accesses(&log, r.accesses);
-    result(r);
-}
-
-// What is refused, and what makes no access.
-fn show_refusals() {
-    let script = [0u32; 1];
-    let mut log = [0u32; 40];
-    let mut long = [0u8; 513];
-    let mut none = [0u8; 0];
-    let mut one = [0u8; 1];
-    text(b"budget of 8001\n");
-    result(exchange_u8(Lpspi::new(), &mut long, 8001, &script, &mut log));
-    text(b"log of 40 for a budget of 21\n");
-    result(exchange_u8(Lpspi::new(), &mut long, 21, &script, &mut log));
-    text(b"513 bytes\n");
-    result(exchange_u8(Lpspi::new(), &mut long, 20, &script, &mut log));
-    text(b"no bytes\n");
-    result(exchange_u8(Lpspi::new(), &mut none, 20, &script, &mut log));
-    text(b"a transmit error before the command\n");
-    let script = [0x800u32];
-    let r = exchange_u8(Lpspi::new(), &mut one, 20, &script, &mut log);
-    accesses(&log, r.accesses);
-    result(r);
-}
-
-fn show_flush() {
-    text(b"flush, busy once\n");
-    let script = [0x0100_0000u32, 0, 0x404, 0];
-    let mut log = [0u32; 10];
-    let r = flush(Lpspi::new(), 5, &script, &mut log);
-    accesses(&log, r.accesses);
-    result(r);
-}
+use data::show_data_calls;
+use disabled::show_clocks;
+use disabled::show_configs;
+use disabled::show_polarities;
+use disabled::show_refused_clocks;
+use disabled::show_settings;
+use disabled::show_short_scripts;
+use exchanges::show_transfers;
+use fifos::show_fifos;
+use fifos::show_more_watermarks;
+use fifos::show_watermarks;
+use limits::show_limits;
+use limits::show_rest_of_log;
+use resets::show_inits;
+use resets::show_recoveries;
+use resets::show_resets;
+use status::show_enables;
+use status::show_named_flags;
+use status::show_status;
 
 fn main() {
-    show_example();
-    text(b"a receive error after the command\n");
-    show_recovery(40);
-    text(b"the same, stopped inside the recovery\n");
-    show_recovery(20);
-    show_in_place();
-    show_halves();
-    show_exchange_in_place();
-    show_short_read();
-    show_write();
-    show_read();
-    show_error_after_a_word();
-    show_transmit_error();
-    show_refusals();
-    show_flush();
+    show_transfers();
+    show_named_flags();
+    show_status();
+    show_enables();
+    show_watermarks();
+    show_more_watermarks();
+    show_fifos();
+    show_data_calls();
+    show_clocks();
+    show_short_scripts();
+    show_refused_clocks();
+    show_configs();
+    show_settings();
+    show_polarities();
+    show_resets();
+    show_recoveries();
+    show_inits();
+    show_limits();
+    show_rest_of_log();
 }

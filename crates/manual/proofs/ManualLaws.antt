@@ -5,6 +5,7 @@ use Prim.Native.Nat.{ℕ, _+_, _%_, _^_, _<_, _≤_}
 use mathlib.Core.Bool.{Bool, true, false, cond, _&&_, _||_}
 use mathlib.Core.List.{List, [], _∷_}
 use mathlib.Core.Path.{_≡_, refl, sym, _∙_, subst}
+use mir.Facts.{and-yes}
 use lib.Dec.{T, leb, ltb, eqb, leb→le, ltb→lt, eqb→eq}
 use Rattle.manual.specs.declared.Param.the-variants.{TXFIFO, RXFIFO}
 use Rattle.manual.specs.declared.Cr.the-variants.{MEN, RST, RTF, RRF}
@@ -22,9 +23,6 @@ use Rattle.manual.specs.declared.Field.the-variants.{Param, Cr, Sr, Cfgr
 use Rattle.manual.specs.Bits.{getBits}
 use Rattle.manual.specs.Manual.{bitsOf, registerOf, readField, setField, Setting, setAll}
 use Rattle.manual.proofs.BitsLaws.{get-set, get-set-below, get-set-above}
-
-both : (a b : Bool) → T (a && b) → T a × T b
-both true true h = (tt, tt)
 
 either : {P : Type 0} (a b : Bool) → T (a || b) → (T a → P) → (T b → P) → P
 either true b h p q = p tt
@@ -117,27 +115,27 @@ table-sound (Rsr RXEMPTY) = tt
 -- INSIDE ITS REGISTER
 pub fits : (f : Field) → (0 < bitsOf f .width) × (bitsOf f .width < 32) × (bitsOf f .position + bitsOf f .width ≤ 32)
 fits f =
-    let h = both (inWord f) (apartFromOthers f && listed f) (table-sound f) in
-    let w = both (ltb 0 (bitsOf f .width)) (ltb (bitsOf f .width) 32 && leb (bitsOf f .position + bitsOf f .width) 32) (h .0) in
-    let l = both (ltb (bitsOf f .width) 32) (leb (bitsOf f .position + bitsOf f .width) 32) (w .1) in
+    let h = and-yes (inWord f) (apartFromOthers f && listed f) (table-sound f) in
+    let w = and-yes (ltb 0 (bitsOf f .width)) (ltb (bitsOf f .width) 32 && leb (bitsOf f .position + bitsOf f .width) 32) (h .0) in
+    let l = and-yes (ltb (bitsOf f .width) 32) (leb (bitsOf f .position + bitsOf f .width) 32) (w .1) in
     (ltb→lt 0 (bitsOf f .width) (w .0), ltb→lt (bitsOf f .width) 32 (l .0), leb→le (bitsOf f .position + bitsOf f .width) 32 (l .1))
 
 every-some : (p q : Field → Bool) (fs : List Field) → T (every p fs) → T (some q fs) → {R : Type 0} → ((f : Field) → T (p f) → T (q f) → R) → R
 every-some p q [] h k r = absurd k
 every-some p q (f ∷ fs) h k r =
-    let b = both (p f) (every p fs) h in
+    let b = and-yes (p f) (every p fs) h in
     either (q f) (some q fs) k (r f (b .0)) (λ t. every-some p q fs (b .1) t r)
 
 -- NO OVERLAP: two fields of a register are the same bits or apart
 pub apart-or-same : (f g : Field) → registerOf f ≡ registerOf g → T (apart f g || sameBits f g)
 apart-or-same f g e =
-    let hf = both (apartFromOthers f) (listed f) (both (inWord f) (apartFromOthers f && listed f) (table-sound f) .1) in
-    let hg = both (apartFromOthers g) (listed g) (both (inWord g) (apartFromOthers g && listed g) (table-sound g) .1) in
+    let hf = and-yes (apartFromOthers f) (listed f) (and-yes (inWord f) (apartFromOthers f && listed f) (table-sound f) .1) in
+    let hg = and-yes (apartFromOthers g) (listed g) (and-yes (inWord g) (apartFromOthers g && listed g) (table-sound g) .1) in
     every-some (λ x. apart f x || sameBits f x) (λ x. sameBits x g) (fieldsOf (registerOf f)) (hf .0) (subst (λ (r : Register). T (some (λ x. sameBits x g) (fieldsOf r))) (sym e) (hg .1)) moved
   where
     moved : (x : Field) → T (apart f x || sameBits f x) → T (sameBits x g) → T (apart f g || sameBits f g)
     moved x h s =
-        let b = both (eqb (bitsOf x .position) (bitsOf g .position)) (eqb (bitsOf x .width) (bitsOf g .width)) s in
+        let b = and-yes (eqb (bitsOf x .position) (bitsOf g .position)) (eqb (bitsOf x .width) (bitsOf g .width)) s in
         let p = eqb→eq (bitsOf x .position) (bitsOf g .position) (b .0) in
         let n = eqb→eq (bitsOf x .width) (bitsOf g .width) (b .1) in
         rw (← p, ← n) h
@@ -173,7 +171,7 @@ found g (s ∷ ss) w = cond (apart (s .0) g) (found g ss w) (s .1 % 2 ^ (bitsOf 
 pub read-all : (g : Field) (ss : List Setting) (w : ℕ) → T (clear g ss) → readField g (setAll ss w) ≡ found g ss w
 read-all g [] w h = refl
 read-all g (s ∷ ss) w h =
-    let b = both (apart (s .0) g || sameBits (s .0) g) (clear g ss) h in
+    let b = and-yes (apart (s .0) g || sameBits (s .0) g) (clear g ss) h in
     let rest = read-all g ss w (b .1) in
     choose (apart (s .0) g) (sameBits (s .0) g) (b .0) (λ t. read-apart (s .0) g (s .1) (setAll ss w) t ∙ rest) (λ t. read-same (s .0) g (s .1) (setAll ss w) t)
   where
@@ -183,7 +181,7 @@ read-all g (s ∷ ss) w h =
 
     read-same : (f g : Field) (v w : ℕ) → T (sameBits f g) → readField g (setField f v w) ≡ v % 2 ^ (bitsOf g .width)
     read-same f g v w t =
-        let b = both (eqb (bitsOf f .position) (bitsOf g .position)) (eqb (bitsOf f .width) (bitsOf g .width)) t in
+        let b = and-yes (eqb (bitsOf f .position) (bitsOf g .position)) (eqb (bitsOf f .width) (bitsOf g .width)) t in
         rw (eqb→eq (bitsOf f .position) (bitsOf g .position) (b .0), eqb→eq (bitsOf f .width) (bitsOf g .width) (b .1)) (get-set (bitsOf g .position) (bitsOf g .width) v w)
 
 -- settings of one register: any field of it reads back as the last of them gave it, or as before
@@ -212,7 +210,7 @@ kept-outside q m [] w h = refl
 kept-outside q m (s ∷ ss) w h =
     let p = bitsOf (s .0) .position in
     let n = bitsOf (s .0) .width in
-    let b = both (leb (q + m) p || leb (p + n) q) (outside q m ss) h in
+    let b = and-yes (leb (q + m) p || leb (p + n) q) (outside q m ss) h in
     either (leb (q + m) p) (leb (p + n) q) (b .0)
     (λ l. get-set-below p n (s .1) (setAll ss w) q m (leb→le _ _ l))
     (λ l. get-set-above p n (s .1) (setAll ss w) q m (leb→le _ _ l))

@@ -66,13 +66,6 @@ words-after (Send i) v rs olds = refl
 words-after (Receive i) v rs olds = laid-last rs v olds ∙ set-min rs olds v
 words-after (Done e) v rs olds = refl
 
-pub uses-one : (a : Access) → usesOf a ≤ 1
-uses-one (Read r) = omega arith
-uses-one (Write r w) = omega arith
-uses-one (Send i) = omega arith
-uses-one (Receive i) = omega arith
-uses-one (Done e) = omega arith
-
 pub got-fit : (a : Access) (got places : ℕ) → got ≤ places → gotAfter a got places ≤ places
 got-fit (Read r) got places l = l
 got-fit (Write r w) got places l = l

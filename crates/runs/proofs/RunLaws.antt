@@ -36,6 +36,14 @@ module _ {ℓ} {A : Type ℓ} (f : A → A) where
   times-still zero s e = refl
   times-still (suc n) s e = rw e (times-still n s e)
 
+-- an access uses at most one answer
+pub uses-one : (a : Access) → usesOf a ≤ 1
+uses-one (Read r) = omega arith
+uses-one (Write r w) = omega arith
+uses-one (Send i) = omega arith
+uses-one (Receive i) = omega arith
+uses-one (Done e) = omega arith
+
 module _ {M : Type 0} (next : M → Access) (resume : M → ℕ → M) (words : List ℕ → ℕ → ℕ) (script : List ℕ) where
   -- A RUN OF a + b ACCESSES is a run of a and then of b
   pub run-add : (a b : ℕ) (s : State M) → run next resume words script (a + b) s ≡ run next resume words script b (run next resume words script a s)
@@ -65,13 +73,6 @@ module _ {M : Type 0} (next : M → Access) (resume : M → ℕ → M) (words : 
   run-log (suc n) s = omega (arith, step-log s, run-log n (step next resume words script s))
 
   -- NO MORE ANSWERS USED THAN ACCESSES MADE
-  uses-one : (a : Access) → usesOf a ≤ 1
-  uses-one (Read r) = omega arith
-  uses-one (Write r w) = omega arith
-  uses-one (Send i) = omega arith
-  uses-one (Receive i) = omega arith
-  uses-one (Done e) = omega arith
-
   step-used : (s : State M) → s .used ≤ length (s .log) → step next resume words script s .used ≤ length (step next resume words script s .log)
   unfolding step afterAccess
   step-used s h = by-test (halted (next (s .machine)) (s .used) (length script))

@@ -8,7 +8,7 @@ use Rattle.sequences.specs.declared.access.Access.{Access}
 use Rattle.sequences.specs.declared.sequence.Sequence.{Sequence}
 use Rattle.sequences.specs.Call.{callAccess, callAfter}
 use Rattle.runs.specs.Run.{put, halted, endingOf}
-use Rattle.runs.proofs.DriveLaws.{uses-one}
+use Rattle.runs.proofs.RunLaws.{uses-one}
 use Rattle.runs.proofs.LoopLaws.{at-start, at-next}
 use Rattle.runs.proofs.CallRunLaws.{CallAt, call-full, call-halted}
 use borrow.Author.Needs.{needs}

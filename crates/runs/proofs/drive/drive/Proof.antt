@@ -10,7 +10,8 @@ use Rattle.sequences.specs.declared.access.Access.{Access}
 use Rattle.machine.specs.Transfer.{resumed}
 use Rattle.runs.specs.Run.{put, halted, endingOf}
 use Rattle.runs.specs.Drive.{Stands}
-use Rattle.runs.proofs.DriveLaws.{uses-one, got-fit, stands-next, stands-full, stands-halted}
+use Rattle.runs.proofs.RunLaws.{uses-one}
+use Rattle.runs.proofs.DriveLaws.{got-fit, stands-next, stands-full, stands-halted}
 use borrow.Author.Needs.{needs}
 use Rattle.runs.proofs.drive.drive.Statement.{statement}
 use Rattle.runs.proofs.drive.drive.Tie as tie

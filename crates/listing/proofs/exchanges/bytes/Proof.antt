@@ -3,8 +3,8 @@
 use Prim.Native.Nat.{_-_, _≤_}
 use native.Mathlib.Omega.{arith}
 use borrow.Author.Needs.{needs}
-use Rattle.listing.proofs.bytes.Statement.{statement}
-use Rattle.listing.proofs.bytes.Tie as tie
+use Rattle.listing.proofs.exchanges.bytes.Statement.{statement}
+use Rattle.listing.proofs.exchanges.bytes.Tie as tie
 
 abbrev Inv-loop : tie.InvT-loop
 Inv-loop read i₀ i-end i = i ≤ i-end

@@ -3,8 +3,8 @@
 use Prim.Native.Nat.{_-_, _≤_}
 use native.Mathlib.Omega.{arith}
 use borrow.Author.Needs.{needs}
-use Rattle.calls_listing.proofs.accesses.Statement.{statement}
-use Rattle.calls_listing.proofs.accesses.Tie as tie
+use Rattle.listing.proofs.print.accesses.Statement.{statement}
+use Rattle.listing.proofs.print.accesses.Tie as tie
 
 abbrev Inv-loop : tie.InvT-loop
 Inv-loop log made i₀ i = i ≤ made
