@@ -1,4 +1,4 @@
--- The other calls of document 01 as runs: `callRun` (runs `Call`) over the call's table (machine `Call`).
+-- The other calls of document 01 as runs: `callRun` (runs `Call`) over the call's table (sequences `Call`).
 -- Assumes nothing.
 use Prim.Native.Nat.{ℕ}
 use mathlib.Core.Bool.{cond}

@@ -1,4 +1,4 @@
--- The other calls as runs: the machine of a call (machine `Call`), driven over its table of moves.
+-- The other calls as runs: the machine of a call (sequences `Call`), driven over its table of moves.
 -- Assumes nothing.
 use Prim.Native.Nat.{ℕ}
 use mathlib.Core.Bool.{cond}
