@@ -13,7 +13,8 @@ os.chdir(os.path.join(os.path.dirname(os.path.abspath(__file__)), '..'))
 crate, rows = sys.argv[1], int(sys.argv[2]) if len(sys.argv) > 2 else 20
 folder = f'target/inc/{crate}'
 shutil.rmtree(folder, ignore_errors=True)
-print(subprocess.run(['rt', 'dev', crate], capture_output=True, text=True).stdout.strip().split('\n')[-1])
+check = subprocess.run(['rt', 'dev', crate], stdout=subprocess.PIPE, stderr=subprocess.STDOUT, text=True)
+print(check.stdout.strip().split('\n')[-1])
 
 saved = []
 for path, _, files in os.walk(folder):
