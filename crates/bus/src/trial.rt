@@ -23,6 +23,7 @@ use crate::run::run;
 use crate::station::Link;
 use crate::station::Station;
 use runs::drive::Frame;
+use words::transaction::Transaction;
 
 // What an end comes to.
 pub struct EndState {
@@ -101,8 +102,8 @@ fn exchange(
     requires { ⌜ Ready gate antenna «gate_total» «antenna_total» fresh (slices (now («gate_read_u8»)) (now («gate_read_u16»)) (now («gate_read_u32»))) (slices (now («gate_write_u8»)) (now («gate_write_u16»)) (now («gate_write_u32»))) (slices (now («antenna_read_u8»)) (now («antenna_read_u16»)) (now («antenna_read_u32»))) (slices (now («antenna_write_u8»)) (now («antenna_write_u16»)) (now («antenna_write_u32»))) (now «gate_registers») (now «antenna_registers») ⌝ }
     ensures { λ r. ⌜ Exchanged gate antenna (slices (now («gate_read_u8» .entry)) (now («gate_read_u16» .entry)) (now («gate_read_u32» .entry))) (slices (now («gate_write_u8» .entry)) (now («gate_write_u16» .entry)) (now («gate_write_u32» .entry))) (slices (now («antenna_read_u8» .entry)) (now («antenna_read_u16» .entry)) (now («antenna_read_u32» .entry))) (slices (now («antenna_write_u8» .entry)) (now («antenna_write_u16» .entry)) (now («antenna_write_u32» .entry))) (now (events .entry)) r (now («gate_registers» .exit)) (now («antenna_registers» .exit)) (slices (now («gate_read_u8» .exit)) (now («gate_read_u16» .exit)) (now («gate_read_u32» .exit))) (slices (now («antenna_read_u8» .exit)) (now («antenna_read_u16» .exit)) (now («antenna_read_u32» .exit))) ⌝ }
 {
-    let mut gate_send = [0u32; 128];
-    let mut antenna_send = [0u32; 128];
+    let mut gate_send = [0u32; Transaction::MAX_WORDS];
+    let mut antenna_send = [0u32; Transaction::MAX_WORDS];
     prepare(
         gate,
         gate_total,
@@ -125,8 +126,8 @@ fn exchange(
         antenna_write_u32,
         &mut antenna_send,
     );
-    let mut gate_words = [0u32; 128];
-    let mut antenna_words = [0u32; 128];
+    let mut gate_words = [0u32; Transaction::MAX_WORDS];
+    let mut antenna_words = [0u32; Transaction::MAX_WORDS];
     let ends = run(
         events,
         fresh,

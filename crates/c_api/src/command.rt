@@ -90,14 +90,16 @@ pub extern "C" fn lpspi_command(
         return 1;
     };
     *word = command
-        .with_bit_order(order_of(lsb))
-        .with_mode(mode_of(mode))
-        .with_pcs(pcs_of(pcs))
-        .with_byte_swap(byte_swap)
-        .with_receive_data_mask(receive_mask)
-        .with_transmit_data_mask(transmit_mask)
-        .with_continuous(continuous)
-        .with_continuing(continuing)
+        .with_settings(
+            byte_swap,
+            order_of(lsb),
+            receive_mask,
+            transmit_mask,
+            continuous,
+            continuing,
+            mode_of(mode),
+            pcs_of(pcs),
+        )
         .as_raw();
     0
 }

@@ -1,4 +1,8 @@
 // Two boards over the bus: the number of a trial, with both read buffers and both ends' states where they go.
+//
+// `state` gets 136 words, 68 for each end, the gate's first: the numbers of its transfer and its flush, or 255; T and R; how many words are to be sent
+// and to be read; 16 places for each; the 30 registers. What has no room is dropped. The answer is 0, or 9 for boards that make no pair. At 9 `state`
+// and both read buffers are as found, so a host looks at the number first: zeros that it lent as `state` would read as Ok twice at both ends.
 ghost use Prim.Native.Nat.{_<_, min};
 ghost use mathlib.Core.List.{_++_};
 ghost use mathlib.Core.Path.{_≡_};
@@ -124,6 +128,7 @@ fn board(width: Width, driver: u32, inplace: u32, exponent: usize) -> Board
     }
 }
 
+// At 9 `state` is as found: it shows no ends.
 #[no_mangle]
 pub extern "C" fn lpspi_trial_u8(
     gate_driver: u32,
@@ -168,6 +173,7 @@ pub extern "C" fn lpspi_trial_u8(
     report(left, state)
 }
 
+// At 9 `state` is as found: it shows no ends.
 #[no_mangle]
 pub extern "C" fn lpspi_trial_u16(
     gate_driver: u32,
@@ -212,6 +218,7 @@ pub extern "C" fn lpspi_trial_u16(
     report(left, state)
 }
 
+// At 9 `state` is as found: it shows no ends.
 #[no_mangle]
 pub extern "C" fn lpspi_trial_u32(
     gate_driver: u32,

@@ -268,6 +268,30 @@ fn show_commands() {
     ));
 }
 
+fn frame_of_settings(flags: bool) {
+    let TransactionResult::Ok(t) = Transaction::new(40) else {
+        return;
+    };
+    command(TransactionResult::Ok(t.with_settings(
+        flags,
+        BitOrder::Lsb,
+        flags,
+        flags,
+        flags,
+        flags,
+        MODE_3,
+        Pcs::Pcs2,
+    )));
+}
+
+// The last of these commands by the setters `set_..`, without and with the flags.
+fn show_settings() {
+    text(b"set, of 40, L, mode 3, PCS 2, no flag");
+    frame_of_settings(false);
+    text(b"set, of 40, L, mode 3, PCS 2, all flags");
+    frame_of_settings(true);
+}
+
 fn clock(source: u32, wanted: u32) {
     text(b"clock");
     number(source as u64);
@@ -295,6 +319,7 @@ fn main() {
     show_longer();
     show_fields();
     show_commands();
+    show_settings();
     show_modes();
     clock(60_000_000, 4_000_000);
     clock(60_000_000, 100_000);

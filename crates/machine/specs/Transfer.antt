@@ -63,7 +63,7 @@ turnAt side sent received t =
     let w = worked sent received (t .work) in
     at (turnOf side w) w (t .reset)
 
--- one more, up to the limit
+-- one more, up to the limit, which no word meets (`BoundLaws`)
 abbrev pub counted : ℕ → ℕ → ℕ
 counted n limit = cond (ltb n limit) (n + 1) n
 

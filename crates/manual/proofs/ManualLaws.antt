@@ -1,12 +1,15 @@
--- The manual's table is sound: every field lies inside its 32-bit register, and two fields of a register share no bit. So a field that was
--- set is read back, and every other one of its register is as it was.
+-- The manual's table is sound: every field lies inside its 32-bit register, and two different fields of a register share no bit. So a field
+-- that was set is read back, and every other one of its register is as it was.
 -- Assumes nothing.
-use Prim.Native.Nat.{ℕ, _+_, _%_, _^_, _<_, _≤_}
+use Prim.Native.Nat.{ℕ, zero, suc, _+_, _%_, _^_, _<_, _≤_}
 use mathlib.Core.Bool.{Bool, true, false, cond, _&&_, _||_}
 use mathlib.Core.List.{List, [], _∷_}
-use mathlib.Core.Path.{_≡_, refl, sym, _∙_, subst}
+use mathlib.Core.Path.{_≡_, refl, sym, ap, _∙_, subst}
+use native.Mathlib.Omega.{arith}
+use lib.ListN.{length, getD}
 use mir.Facts.{and-yes}
-use lib.Dec.{T, leb, ltb, eqb, leb→le, ltb→lt, eqb→eq}
+use lib.Dec.{T, leb, ltb, eqb, leb→le, ltb→lt, eqb→eq, eqb-refl}
+use borrow.Author.Tests.{ltb-true, ltb-false}
 use Rattle.manual.specs.declared.Param.the-variants.{TXFIFO, RXFIFO}
 use Rattle.manual.specs.declared.Cr.the-variants.{MEN, RST, RTF, RRF}
 use Rattle.manual.specs.declared.Sr.the-variants.{TDF, RDF, WCF, FCF, TCF, TEF, REF, DMF, MBF}
@@ -54,91 +57,172 @@ fieldsOf TDR = []
 fieldsOf RSR = Rsr SOF ∷ Rsr RXEMPTY ∷ []
 fieldsOf RDR = []
 
+-- some field, where a place has none
+abbrev nth : ℕ → List Field → Field
+nth n fs = getD fs n (Cr MEN)
+
 abbrev every : (Field → Bool) → List Field → Bool
 every p [] = true
 every p (f ∷ fs) = p f && every p fs
 
-abbrev some : (Field → Bool) → List Field → Bool
-some p [] = false
-some p (f ∷ fs) = p f || some p fs
+-- each two of them are apart
+abbrev eachApart : List Field → Bool
+eachApart [] = true
+eachApart (f ∷ fs) = every (apart f) fs && eachApart fs
 
 abbrev inWord : Field → Bool
 inWord f = ltb 0 (bitsOf f .width) && (ltb (bitsOf f .width) 32 && leb (bitsOf f .position + bitsOf f .width) 32)
 
-abbrev apartFromOthers : Field → Bool
-apartFromOthers f = every (λ g. apart f g || sameBits f g) (fieldsOf (registerOf f))
+-- a row of the table: the field lies inside its register, and stands at this place among the register's fields
+record Row (f : Field) : Type 0 where
+  inside : T (inWord f)
+  place : ℕ
+  counted : T (ltb place (length (fieldsOf (registerOf f))))
+  stands : nth place (fieldsOf (registerOf f)) ≡ f
 
-abbrev listed : Field → Bool
-listed f = some (λ g. sameBits g f) (fieldsOf (registerOf f))
+row : {f : Field} → T (inWord f) → (n : ℕ) → T (ltb n (length (fieldsOf (registerOf f)))) → nth n (fieldsOf (registerOf f)) ≡ f → Row f
+row i n c s = record { inside = i; place = n; counted = c; stands = s }
 
 -- every row of the table, computed
-table-sound : (f : Field) → T (inWord f && (apartFromOthers f && listed f))
-table-sound (Param TXFIFO) = tt
-table-sound (Param RXFIFO) = tt
-table-sound (Cr MEN) = tt
-table-sound (Cr RST) = tt
-table-sound (Cr RTF) = tt
-table-sound (Cr RRF) = tt
-table-sound (Sr TDF) = tt
-table-sound (Sr RDF) = tt
-table-sound (Sr WCF) = tt
-table-sound (Sr FCF) = tt
-table-sound (Sr TCF) = tt
-table-sound (Sr TEF) = tt
-table-sound (Sr REF) = tt
-table-sound (Sr DMF) = tt
-table-sound (Sr MBF) = tt
-table-sound (Cfgr1 MASTER) = tt
-table-sound (Cfgr1 SAMPLE) = tt
-table-sound (Cfgr1 PCSPOL) = tt
-table-sound (Ccr SCKDIV) = tt
-table-sound (Ccr DBT) = tt
-table-sound (Ccr PCSSCK) = tt
-table-sound (Ccr SCKPCS) = tt
-table-sound (Fcr TXWATER) = tt
-table-sound (Fcr RXWATER) = tt
-table-sound (Fsr TXCOUNT) = tt
-table-sound (Fsr RXCOUNT) = tt
-table-sound (Tcr FRAMESZ) = tt
-table-sound (Tcr TXMSK) = tt
-table-sound (Tcr RXMSK) = tt
-table-sound (Tcr CONTC) = tt
-table-sound (Tcr CONT) = tt
-table-sound (Tcr BYSW) = tt
-table-sound (Tcr LSBF) = tt
-table-sound (Tcr PCS) = tt
-table-sound (Tcr CPHA) = tt
-table-sound (Tcr CPOL) = tt
-table-sound (Rsr SOF) = tt
-table-sound (Rsr RXEMPTY) = tt
+table-sound : (f : Field) → Row f
+table-sound (Param TXFIFO) = row tt 0 tt refl
+table-sound (Param RXFIFO) = row tt 1 tt refl
+table-sound (Cr MEN) = row tt 0 tt refl
+table-sound (Cr RST) = row tt 1 tt refl
+table-sound (Cr RTF) = row tt 2 tt refl
+table-sound (Cr RRF) = row tt 3 tt refl
+table-sound (Sr TDF) = row tt 0 tt refl
+table-sound (Sr RDF) = row tt 1 tt refl
+table-sound (Sr WCF) = row tt 2 tt refl
+table-sound (Sr FCF) = row tt 3 tt refl
+table-sound (Sr TCF) = row tt 4 tt refl
+table-sound (Sr TEF) = row tt 5 tt refl
+table-sound (Sr REF) = row tt 6 tt refl
+table-sound (Sr DMF) = row tt 7 tt refl
+table-sound (Sr MBF) = row tt 8 tt refl
+table-sound (Cfgr1 MASTER) = row tt 0 tt refl
+table-sound (Cfgr1 SAMPLE) = row tt 1 tt refl
+table-sound (Cfgr1 PCSPOL) = row tt 2 tt refl
+table-sound (Ccr SCKDIV) = row tt 0 tt refl
+table-sound (Ccr DBT) = row tt 1 tt refl
+table-sound (Ccr PCSSCK) = row tt 2 tt refl
+table-sound (Ccr SCKPCS) = row tt 3 tt refl
+table-sound (Fcr TXWATER) = row tt 0 tt refl
+table-sound (Fcr RXWATER) = row tt 1 tt refl
+table-sound (Fsr TXCOUNT) = row tt 0 tt refl
+table-sound (Fsr RXCOUNT) = row tt 1 tt refl
+table-sound (Tcr FRAMESZ) = row tt 0 tt refl
+table-sound (Tcr TXMSK) = row tt 1 tt refl
+table-sound (Tcr RXMSK) = row tt 2 tt refl
+table-sound (Tcr CONTC) = row tt 3 tt refl
+table-sound (Tcr CONT) = row tt 4 tt refl
+table-sound (Tcr BYSW) = row tt 5 tt refl
+table-sound (Tcr LSBF) = row tt 6 tt refl
+table-sound (Tcr PCS) = row tt 7 tt refl
+table-sound (Tcr CPHA) = row tt 8 tt refl
+table-sound (Tcr CPOL) = row tt 9 tt refl
+table-sound (Rsr SOF) = row tt 0 tt refl
+table-sound (Rsr RXEMPTY) = row tt 1 tt refl
+
+-- every pair of fields of a register, computed
+pairs-apart : (r : Register) → T (eachApart (fieldsOf r))
+pairs-apart PARAM = tt
+pairs-apart CR = tt
+pairs-apart SR = tt
+pairs-apart IER = tt
+pairs-apart DER = tt
+pairs-apart CFGR0 = tt
+pairs-apart CFGR1 = tt
+pairs-apart DMR0 = tt
+pairs-apart DMR1 = tt
+pairs-apart CCR = tt
+pairs-apart FCR = tt
+pairs-apart FSR = tt
+pairs-apart TCR = tt
+pairs-apart TDR = tt
+pairs-apart RSR = tt
+pairs-apart RDR = tt
 
 -- INSIDE ITS REGISTER
 pub fits : (f : Field) → (0 < bitsOf f .width) × (bitsOf f .width < 32) × (bitsOf f .position + bitsOf f .width ≤ 32)
 fits f =
-    let h = and-yes (inWord f) (apartFromOthers f && listed f) (table-sound f) in
-    let w = and-yes (ltb 0 (bitsOf f .width)) (ltb (bitsOf f .width) 32 && leb (bitsOf f .position + bitsOf f .width) 32) (h .0) in
+    let w = and-yes (ltb 0 (bitsOf f .width)) (ltb (bitsOf f .width) 32 && leb (bitsOf f .position + bitsOf f .width) 32) (table-sound f .inside) in
     let l = and-yes (ltb (bitsOf f .width) 32) (leb (bitsOf f .position + bitsOf f .width) 32) (w .1) in
     (ltb→lt 0 (bitsOf f .width) (w .0), ltb→lt (bitsOf f .width) 32 (l .0), leb→le (bitsOf f .position + bitsOf f .width) 32 (l .1))
 
-every-some : (p q : Field → Bool) (fs : List Field) → T (every p fs) → T (some q fs) → {R : Type 0} → ((f : Field) → T (p f) → T (q f) → R) → R
-every-some p q [] h k r = absurd k
-every-some p q (f ∷ fs) h k r =
-    let b = and-yes (p f) (every p fs) h in
-    either (q f) (some q fs) k (r f (b .0)) (λ t. every-some p q fs (b .1) t r)
+every-nth : (p : Field → Bool) (fs : List Field) (n : ℕ) → T (every p fs) → n < length fs → T (p (nth n fs))
+every-nth p [] n h l = absurd (omega arith)
+every-nth p (f ∷ fs) zero h l = and-yes (p f) (every p fs) h .0
+every-nth p (f ∷ fs) (suc n) h l = every-nth p fs n (and-yes (p f) (every p fs) h .1) (omega arith)
 
--- NO OVERLAP: two fields of a register are the same bits or apart
-pub apart-or-same : (f g : Field) → registerOf f ≡ registerOf g → T (apart f g || sameBits f g)
-apart-or-same f g e =
-    let hf = and-yes (apartFromOthers f) (listed f) (and-yes (inWord f) (apartFromOthers f && listed f) (table-sound f) .1) in
-    let hg = and-yes (apartFromOthers g) (listed g) (and-yes (inWord g) (apartFromOthers g && listed g) (table-sound g) .1) in
-    every-some (λ x. apart f x || sameBits f x) (λ x. sameBits x g) (fieldsOf (registerOf f)) (hf .0) (subst (λ (r : Register). T (some (λ x. sameBits x g) (fieldsOf r))) (sym e) (hg .1)) moved
+nth-apart : (fs : List Field) (m n : ℕ) → T (eachApart fs) → m < n → n < length fs → T (apart (nth m fs) (nth n fs))
+nth-apart [] m n h l k = absurd (omega arith)
+nth-apart (f ∷ fs) zero zero h l k = absurd (omega arith)
+nth-apart (f ∷ fs) zero (suc n) h l k = every-nth (apart f) fs n (and-yes (every (apart f) fs) (eachApart fs) h .0) (omega arith)
+nth-apart (f ∷ fs) (suc m) zero h l k = absurd (omega arith)
+nth-apart (f ∷ fs) (suc m) (suc n) h l k = nth-apart fs m n (and-yes (every (apart f) fs) (eachApart fs) h .1) (omega arith) (omega arith)
+
+apart-swapped : (f g : Field) → T (apart f g) → T (apart g f)
+apart-swapped f g =
+    swapped (leb (bitsOf g .position + bitsOf g .width) (bitsOf f .position)) (leb (bitsOf f .position + bitsOf f .width) (bitsOf g .position))
   where
-    moved : (x : Field) → T (apart f x || sameBits f x) → T (sameBits x g) → T (apart f g || sameBits f g)
-    moved x h s =
-        let b = and-yes (eqb (bitsOf x .position) (bitsOf g .position)) (eqb (bitsOf x .width) (bitsOf g .width)) s in
-        let p = eqb→eq (bitsOf x .position) (bitsOf g .position) (b .0) in
-        let n = eqb→eq (bitsOf x .width) (bitsOf g .width) (b .1) in
-        rw (← p, ← n) h
+    swapped : (a b : Bool) → T (a || b) → T (b || a)
+    swapped true true h = tt
+    swapped true false h = tt
+    swapped false true h = tt
+
+-- two fields of a register: the same one, or apart
+module _ (f g : Field) (e : registerOf f ≡ registerOf g) where
+  abbrev fs : List Field
+  fs = fieldsOf (registerOf f)
+
+  abbrev m : ℕ
+  m = table-sound f .place
+
+  abbrev n : ℕ
+  n = table-sound g .place
+
+  at-g : nth n fs ≡ g
+  at-g = ap (λ (r : Register). nth n (fieldsOf r)) e ∙ table-sound g .stands
+
+  below : (i j : ℕ) (x y : Field) → nth i fs ≡ x → nth j fs ≡ y → ltb i j ≡ true → j < length fs → T (apart x y)
+  below i j x y ex ey h l =
+      subst (λ (z : Field). T (apart x z)) ey
+      (subst (λ (z : Field). T (apart z (nth j fs))) ex (nth-apart fs i j (pairs-apart (registerOf f)) (ltb-true i j h) l))
+
+  same-or-apart : {P : Type 0} → (f ≡ g → P) → (T (apart f g) → P) → P
+  same-or-apart {P} same other = by-place (ltb m n) (ltb n m) refl refl
+    where
+      by-place : (b c : Bool) → ltb m n ≡ b → ltb n m ≡ c → P
+      by-place true c h k =
+          other (below m n f g (table-sound f .stands) at-g h (subst (λ (r : Register). n < length (fieldsOf r)) (sym e) (ltb→lt n (length (fieldsOf (registerOf g))) (table-sound g .counted))))
+      by-place false true h k =
+          other (apart-swapped g f (below n m g f at-g (table-sound f .stands) k (ltb→lt m (length fs) (table-sound f .counted))))
+      by-place false false h k =
+          let l = ltb-false m n h in
+          let r = ltb-false n m k in
+          let q : m ≡ n = omega arith in
+          same (sym (table-sound f .stands) ∙ ap (λ (i : ℕ). nth i fs) q ∙ at-g)
+
+-- NO OVERLAP: two different fields of a register share no bit
+pub different-apart : (f g : Field) → registerOf f ≡ registerOf g → (f ≡ g → ⊥) → T (apart f g)
+different-apart f g e n = same-or-apart f g e (λ q. absurd (n q)) (λ t. t)
+
+apart-or-same : (f g : Field) → registerOf f ≡ registerOf g → T (apart f g || sameBits f g)
+apart-or-same f g e = same-or-apart f g e (λ q. right (apart f g) (sameBits f g) (subst (λ (x : Field). T (sameBits f x)) q (itself f))) (λ t. left (apart f g) (sameBits f g) t)
+  where
+    left : (a b : Bool) → T a → T (a || b)
+    left true b h = tt
+
+    right : (a b : Bool) → T b → T (a || b)
+    right true true h = tt
+    right false true h = tt
+
+    both : (a b : Bool) → T a → T b → T (a && b)
+    both true true h k = tt
+
+    itself : (f : Field) → T (sameBits f f)
+    itself f = both (eqb (bitsOf f .position) (bitsOf f .position)) (eqb (bitsOf f .width) (bitsOf f .width)) (eqb-refl (bitsOf f .position)) (eqb-refl (bitsOf f .width))
 
 -- READ BACK: the value, masked to the field
 pub read-set : (f : Field) (v w : ℕ) → readField f (setField f v w) ≡ v % 2 ^ (bitsOf f .width)
@@ -151,9 +235,8 @@ read-apart f g v w h =
     (λ l. get-set-above (bitsOf f .position) (bitsOf f .width) v w (bitsOf g .position) (bitsOf g .width) (leb→le _ _ l))
 
 -- OTHERS KEPT: every other field of the register
-pub read-set-other : (f g : Field) (v w : ℕ) → registerOf f ≡ registerOf g → (T (sameBits f g) → ⊥) → readField g (setField f v w) ≡ readField g w
-read-set-other f g v w e n =
-    either (apart f g) (sameBits f g) (apart-or-same f g e) (λ t. read-apart f g v w t) (λ t. absurd (n t))
+pub read-set-other : (f g : Field) (v w : ℕ) → registerOf f ≡ registerOf g → (f ≡ g → ⊥) → readField g (setField f v w) ≡ readField g w
+read-set-other f g v w e n = read-apart f g v w (different-apart f g e n)
 
 -- SEVERAL FIELDS SET
 

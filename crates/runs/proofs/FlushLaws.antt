@@ -6,19 +6,26 @@ use mathlib.Core.List.{List}
 use mathlib.Core.Path.{_≡_, refl, sym, ap, ap₂, _∙_, subst}
 use native.Mathlib.Omega.{arith}
 use lib.ListN.{length, getD}
-use lib.Dec.{leb}
+use lib.Dec.{leb, eqb}
 use borrow.Author.Tests.{lt-leb, leb-true, leb-false}
+use Rattle.manual.specs.declared.Field.the-variants.{Sr, Fsr}
+use Rattle.manual.specs.declared.Fsr.the-variants.{TXCOUNT}
 use Rattle.manual.specs.declared.Register.the-variants.{SR, PARAM, FSR}
+use Rattle.manual.specs.declared.Sr.the-variants.{MBF}
+use Rattle.manual.specs.Manual.{readField}
+use Rattle.words.specs.declared.transaction.Direction.the-variants.{Tx, Rx}
+use Rattle.words.specs.declared.transaction.LpspiError.the-variants.{Fifo}
 use Rattle.sequences.specs.declared.access.Access.the-variants.{Read}
 use Rattle.sequences.specs.declared.access.Ending.{Ending}
-use Rattle.sequences.specs.declared.access.Ending.the-variants.{Stopped}
+use Rattle.sequences.specs.declared.access.Ending.the-variants.{Ok, Err, Stopped}
 use Rattle.sequences.specs.declared.driver.Lpspi.{Lpspi}
 use Rattle.machine.specs.declared.flush.Flush.{Flush}
 use Rattle.machine.specs.declared.flush.Flush.the-variants.{Status, Sizes, Counts, Ended}
 use Rattle.machine.specs.Flush.{flushAccess, flushed}
+use Rattle.machine.specs.Poll.{failed}
 use Rattle.runs.specs.declared.flush.Flushed.{Flushed}
 use Rattle.runs.specs.Run.{limits, codeOf, halted, ended, endingOf, State, left, logOver, put}
-use Rattle.runs.specs.Flush.{flushStates, FlushLeft, flushLeft, flushLoop, flushRun, FlushAt, statusDue, sizesDue, Busy}
+use Rattle.runs.specs.Flush.{flushStates, FlushLeft, flushLeft, flushLoop, flushRun, FlushAt}
 use Rattle.runs.proofs.LoopLaws.{at-next, at-full, at-halted}
 
 -- a flush that has not ended reads: it is halted where the script is used up, and stopped where it halts
@@ -49,45 +56,30 @@ module _ (script old : List ℕ) (n : ℕ) where
   flush-next Counts g v log log′ h e l r ev el eg = at-next flushAccess flushed script old Status n n Counts log h (Read FSR) v refl (lt-leb (length script) n l) ev g log′ r eg el
   flush-next (Ended x) g v log log′ h e l r ev el eg = absurd (let z : _≡_ {A = ℕ} 0 1 = cc in omega arith)
 
-  -- BUSY POLLS, and one that finds words to send: the flush stands where it stood
-  pub flush-busy : (log log′ : List ℕ) → FlushAt script old n Status log → flushed Status (getD script n 0) ≡ Status → n < length script → 2 * n + 1 < length old
-      → log′ ≡ put log n (codeOf (flushAccess Status)) (getD script n 0) → FlushAt script old (n + 1) Status log′
-  flush-busy log log′ h b l r el = flush-next Status Status (getD script n 0) log log′ h refl l r refl el (sym b)
+  -- a read, and the flush goes on by its answer
+  pub flush-read : (f : Flush) (at v : ℕ) (log log′ : List ℕ) → FlushAt script old n f log → ended (flushAccess f) ≡ false → n < length script → 2 * n + 1 < length old
+      → at ≡ codeOf (flushAccess f) → v ≡ getD script n 0 → log′ ≡ put log n at (getD script n 0) → FlushAt script old (n + 1) (flushed f v) log′
+  flush-read f at v log log′ h e l r ea ev el =
+      flush-next f (flushed f v) v log log′ h e l r ev (el ∙ ap₂ (λ (x y : ℕ). put log n x y) ea (sym ev)) refl
 
-pub flush-filled : (script old : List ℕ) (n : ℕ) (log log₁ log₂ log₃ : List ℕ) → FlushAt script old n Status log → n + 2 < length script → 2 * (n + 3) ≤ length old
-    → flushed Status (getD script n 0) ≡ Sizes → flushed Counts (getD script (n + 2) 0) ≡ Status
-    → log₁ ≡ put log n (codeOf (flushAccess Status)) (getD script n 0)
-    → log₂ ≡ put log₁ (n + 1) (codeOf (flushAccess Sizes)) (getD script (n + 1) 0)
-    → log₃ ≡ put log₂ (n + 2) (codeOf (flushAccess Counts)) (getD script (n + 2) 0)
-    → FlushAt script old (n + 3) Status log₃
-flush-filled script old n log log₁ log₂ log₃ h l r s t e₁ e₂ e₃ =
-    let h₁ : FlushAt script old (n + 1) Sizes log₁ = flush-next script old n Status Sizes (getD script n 0) log log₁ h refl (omega arith) (omega arith) refl e₁ (sym s) in
-    let h₂ : FlushAt script old (n + 1 + 1) Counts log₂ = flush-next script old (n + 1) Sizes Counts (getD script (n + 1) 0) log₁ log₂ h₁ refl (omega arith) (omega arith) refl e₂ refl in
-    let two : n + 1 + 1 ≡ n + 2 = omega arith in
-    let h₂′ : FlushAt script old (n + 2) Counts log₂ = subst (λ (m : ℕ). FlushAt script old m Counts log₂) two h₂ in
-    let h₃ : FlushAt script old (n + 2 + 1) Status log₃ = flush-next script old (n + 2) Counts Status (getD script (n + 2) 0) log₂ log₃ h₂′ refl (omega arith) (omega arith) refl e₃ (sym t) in
-    let three : n + 2 + 1 ≡ n + 3 = omega arith in
-    subst (λ (m : ℕ). FlushAt script old m Status log₃) three h₃
+-- what the answers of SR and FSR come to: receive error, then transmit error, then, if not busy, PARAM and FSR; Ok if TXCOUNT is 0
+pub receive-failed : (v : ℕ) → failed Rx v ≡ true → flushed Status v ≡ Ended (Err (Fifo Rx))
+receive-failed v r = rw r refl
 
-pub status-due : (f : Flush) → statusDue f ≡ true → f ≡ Status
-status-due Status e = refl
-status-due Sizes e = cc
-status-due Counts e = cc
-status-due (Ended x) e = cc
+pub transmit-failed : (v : ℕ) → failed Rx v ≡ false → failed Tx v ≡ true → flushed Status v ≡ Ended (Err (Fifo Tx))
+transmit-failed v r t = rw (r, t) refl
 
-pub sizes-due : (f : Flush) → sizesDue f ≡ true → f ≡ Sizes
-sizes-due Status e = cc
-sizes-due Sizes e = refl
-sizes-due Counts e = cc
-sizes-due (Ended x) e = cc
+pub still-busy : (v : ℕ) → failed Rx v ≡ false → failed Tx v ≡ false → eqb (readField (Sr MBF) v) 1 ≡ true → flushed Status v ≡ Status
+still-busy v r t b = rw (r, t, b) refl
 
--- one busy answer more
-pub busy-more : (script : List ℕ) (from n : ℕ) → Busy script from n → flushed Status (getD script n 0) ≡ Status → Busy script from (n + 1)
-busy-more script from n b e i l u = by-test (leb n i) refl
-  where
-    by-test : (t : Bool) → leb n i ≡ t → flushed Status (getD script i 0) ≡ Status
-    by-test true t = let le = leb-true n i t in let same : i ≡ n = omega arith in ap (λ (j : ℕ). flushed Status (getD script j 0)) same ∙ e
-    by-test false t = let lt = leb-false n i t in b i l (omega arith)
+pub not-busy : (v : ℕ) → failed Rx v ≡ false → failed Tx v ≡ false → eqb (readField (Sr MBF) v) 1 ≡ false → flushed Status v ≡ Sizes
+not-busy v r t b = rw (r, t, b) refl
+
+pub none-left : (v : ℕ) → eqb (readField (Fsr TXCOUNT) v) 0 ≡ true → flushed Counts v ≡ Ended Ok
+none-left v e = rw e refl
+
+pub some-left : (v : ℕ) → eqb (readField (Fsr TXCOUNT) v) 0 ≡ false → flushed Counts v ≡ Status
+some-left v e = rw e refl
 
 -- ITS END
 module _ (script old : List ℕ) (n : ℕ) (f : Flush) (log : List ℕ) (h : FlushAt script old n f log) where

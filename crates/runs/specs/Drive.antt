@@ -1,7 +1,7 @@
 -- The run of a transfer over FIFO words, the border between this crate and those above it: what `run_words`, `word_in` and `keep` promise. No
 -- contract of a call of document 01 cites it: there the words are elements (transfers `Transfers`).
 -- Assumes nothing.
-use Prim.Native.Nat.{ℕ, min}
+use Prim.Native.Nat.{ℕ, _+_, min}
 use mathlib.Core.Bool.{cond, _&&_}
 use mathlib.Core.List.{List}
 use mathlib.Core.Path.{_≡_}
@@ -16,7 +16,7 @@ use Rattle.sequences.specs.declared.driver.Lpspi.{Lpspi}
 use Rattle.machine.specs.declared.transfer.Transfer.{Transfer}
 use Rattle.sequences.specs.declared.access.Ending.the-variants.{Limits}
 use Rattle.sequences.specs.Access.{numberOf}
-use Rattle.machine.specs.Transfer.{startTransfer, counted, dueAccess, resumed}
+use Rattle.machine.specs.Transfer.{startTransfer, dueAccess, resumed}
 use Rattle.runs.specs.declared.drive.Frame.{Frame}
 use Rattle.runs.specs.declared.drive.Spot.{Spot}
 use Rattle.runs.specs.declared.drive.Driven.{Driven}
@@ -34,7 +34,7 @@ abbrev pub gotAfter : Access → ℕ → ℕ → ℕ
 gotAfter (Read r) got places = got
 gotAfter (Write r w) got places = got
 gotAfter (Send i) got places = got
-gotAfter (Receive i) got places = counted got places
+gotAfter (Receive i) got places = cond (ltb got places) (got + 1) got
 gotAfter (Done e) got places = got
 
 abbrev pub wordsAfter : Access → List ℕ → ℕ → ℕ → List ℕ

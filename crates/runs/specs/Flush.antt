@@ -1,13 +1,12 @@
 -- `flush` as a run.
 -- Assumes nothing.
-use Prim.Native.Nat.{ℕ, _<_, _≤_}
-use mathlib.Core.Bool.{Bool, true, false, cond}
+use Prim.Native.Nat.{ℕ}
+use mathlib.Core.Bool.{cond}
 use mathlib.Core.List.{List}
-use mathlib.Core.Path.{_≡_}
-use lib.ListN.{length, getD}
+use lib.ListN.{length}
 use Rattle.sequences.specs.declared.driver.Lpspi.{Lpspi}
 use Rattle.machine.specs.declared.flush.Flush.{Flush}
-use Rattle.machine.specs.declared.flush.Flush.the-variants.{Status, Sizes, Counts, Ended}
+use Rattle.machine.specs.declared.flush.Flush.the-variants.{Status}
 use Rattle.machine.specs.Flush.{flushAccess, flushed}
 use Rattle.runs.specs.declared.flush.Flushed.{Flushed}
 use Rattle.runs.specs.Loop.{At}
@@ -28,23 +27,6 @@ flushLeft f log = record { flushed = f; log = log }
 -- after n accesses, all of them reads, the loop holds f and this log (private contracts cite it)
 abbrev pub FlushAt : List ℕ → List ℕ → ℕ → Flush → List ℕ → Type 0
 FlushAt script old n f log = At flushAccess flushed script old Status n n f log
-
--- SR is due, and PARAM is due (private contracts cite these)
-abbrev pub statusDue : Flush → Bool
-statusDue Status = true
-statusDue Sizes = false
-statusDue Counts = false
-statusDue (Ended e) = false
-
-abbrev pub sizesDue : Flush → Bool
-sizesDue Status = false
-sizesDue Sizes = true
-sizesDue Counts = false
-sizesDue (Ended e) = false
-
--- the answers from one place to another are of a busy SR with no error (private contracts cite it)
-abbrev pub Busy : List ℕ → ℕ → ℕ → Type 0
-Busy script from to = (i : ℕ) → from ≤ i → i < to → flushed Status (getD script i 0) ≡ Status
 
 -- the loop: the run with at most `budget` accesses (private contracts cite it)
 unfoldable pub flushLoop : List ℕ → ℕ → List ℕ → FlushLeft

@@ -1,3 +1,5 @@
 mod Lists
 pub mod ChangeLaws
 pub mod CallLaws
+pub mod ResetLaws
+pub mod SizeLaws

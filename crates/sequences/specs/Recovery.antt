@@ -51,7 +51,7 @@ recovery = softReset ++ clearStatus errors
 
 -- INSIDE A TRANSFER
 
--- past its end the last move stands, so that a recovery always has an access due; it has ended before (`recovered`)
+-- past its end the last move stands, so that a recovery always has an access due; it has ended before (`recovered`; machine `BoundLaws`)
 abbrev pub recoveryMove : ℕ → Move
 recoveryMove place = getD recovery place (Write SR (cleared errors))
 

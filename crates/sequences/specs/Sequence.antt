@@ -90,7 +90,7 @@ abbrev pub exponentOf : Direction → ℕ → ℕ
 exponentOf Tx param = readField (Param TXFIFO) param
 exponentOf Rx param = readField (Param RXFIFO) param
 
--- the words of a FIFO of at most 16 words (no exponent over 4 comes to be asked: `Size` refuses it with 7)
+-- the words of a FIFO of at most 16 words; no exponent over 4 comes to be asked (`SizeLaws`): `Size` refuses it with 7
 abbrev pub sizeOf : ℕ → ℕ
 sizeOf exponent = 2 ^ min exponent 4
 

@@ -1,7 +1,9 @@
 // The status flags.
 ghost use mathlib.Core.Path.{_≡_};
 ghost use lib.Bits.{bitOr};
-ghost use Rattle.sequences.specs.Status.{statusOf, cleared};
+ghost use mathlib.Core.List.{[], _∷_};
+ghost use Rattle.manual.specs.declared.Sr.the-variants.{TDF, RDF, WCF, FCF, TCF, TEF, REF, DMF, MBF};
+ghost use Rattle.sequences.specs.Status.{flagged, statusOf, cleared};
 
 pub struct Status {
     bits: u32,
@@ -25,6 +27,61 @@ impl Status {
     pub const RECEIVE_DATA: Self = Status { bits: 0x0002 };
 
     pub const TRANSMIT_DATA: Self = Status { bits: 0x0001 };
+
+    // Each constant is the flag's bit, as the manual has it.
+    fn busy() -> Self
+        ensures { λ r. ⌜ r .bits ≡ flagged (MBF ∷ []) ⌝ }
+    {
+        Self::BUSY
+    }
+
+    fn data_match() -> Self
+        ensures { λ r. ⌜ r .bits ≡ flagged (DMF ∷ []) ⌝ }
+    {
+        Self::DATA_MATCH
+    }
+
+    fn receive_error() -> Self
+        ensures { λ r. ⌜ r .bits ≡ flagged (REF ∷ []) ⌝ }
+    {
+        Self::RECEIVE_ERROR
+    }
+
+    fn transmit_error() -> Self
+        ensures { λ r. ⌜ r .bits ≡ flagged (TEF ∷ []) ⌝ }
+    {
+        Self::TRANSMIT_ERROR
+    }
+
+    fn transfer_complete() -> Self
+        ensures { λ r. ⌜ r .bits ≡ flagged (TCF ∷ []) ⌝ }
+    {
+        Self::TRANSFER_COMPLETE
+    }
+
+    fn frame_complete() -> Self
+        ensures { λ r. ⌜ r .bits ≡ flagged (FCF ∷ []) ⌝ }
+    {
+        Self::FRAME_COMPLETE
+    }
+
+    fn word_complete() -> Self
+        ensures { λ r. ⌜ r .bits ≡ flagged (WCF ∷ []) ⌝ }
+    {
+        Self::WORD_COMPLETE
+    }
+
+    fn receive_data() -> Self
+        ensures { λ r. ⌜ r .bits ≡ flagged (RDF ∷ []) ⌝ }
+    {
+        Self::RECEIVE_DATA
+    }
+
+    fn transmit_data() -> Self
+        ensures { λ r. ⌜ r .bits ≡ flagged (TDF ∷ []) ⌝ }
+    {
+        Self::TRANSMIT_DATA
+    }
 
     // The flags of a word that have a name.
     pub fn from_bits_truncate(bits: u32) -> Self

@@ -6,9 +6,6 @@ use runs::result::RunResult;
 use sequences::access::Ending;
 use sequences::driver::Lpspi;
 
-// The FIFO words of the longest frame.
-pub(crate) const WORDS: usize = 128;
-
 pub(crate) fn result(driver: Lpspi, driven: Driven) -> RunResult
     ensures { λ r. ⌜ r ≡ resultOf driver driven ⌝ }
 {

@@ -1,7 +1,6 @@
 // `exchange`: transmit a buffer and receive into it.
 ghost use mathlib.Core.Path.{_≡_};
 ghost use Rattle.transfers.specs.Transfers.{transferLeft, exchange};
-use crate::entry::WORDS;
 use crate::entry::result;
 use runs::drive::Frame;
 use runs::log::limits;
@@ -51,8 +50,8 @@ pub fn exchange_u8(
         total,
         inplace: true,
     };
-    let mut send = [0u32; WORDS];
-    let mut words = [0u32; WORDS];
+    let mut send = [0u32; Transaction::MAX_WORDS];
+    let mut words = [0u32; Transaction::MAX_WORDS];
     pack_words_u8(order, buf, total, &mut send);
     let driven = run_words(
         driver,
@@ -101,8 +100,8 @@ pub fn exchange_u16(
         total,
         inplace: true,
     };
-    let mut send = [0u32; WORDS];
-    let mut words = [0u32; WORDS];
+    let mut send = [0u32; Transaction::MAX_WORDS];
+    let mut words = [0u32; Transaction::MAX_WORDS];
     pack_words_u16(order, buf, total, &mut send);
     let driven = run_words(
         driver,
@@ -151,8 +150,8 @@ pub fn exchange_u32(
         total,
         inplace: true,
     };
-    let mut send = [0u32; WORDS];
-    let mut words = [0u32; WORDS];
+    let mut send = [0u32; Transaction::MAX_WORDS];
+    let mut words = [0u32; Transaction::MAX_WORDS];
     pack_words_u32(order, buf, total, &mut send);
     let driven = run_words(
         driver,

@@ -1,7 +1,6 @@
 // `exchange_separate`: transmit one buffer and receive into the other, of any lengths.
 ghost use mathlib.Core.Path.{_≡_};
 ghost use Rattle.transfers.specs.Transfers.{transferLeft, exchangeSeparate};
-use crate::entry::WORDS;
 use crate::entry::result;
 use runs::drive::Frame;
 use runs::log::limits;
@@ -56,8 +55,8 @@ pub fn exchange_separate_u8(
         total,
         inplace: false,
     };
-    let mut send = [0u32; WORDS];
-    let mut words = [0u32; WORDS];
+    let mut send = [0u32; Transaction::MAX_WORDS];
+    let mut words = [0u32; Transaction::MAX_WORDS];
     pack_words_u8(order, write, total, &mut send);
     let driven = run_words(
         driver,
@@ -108,8 +107,8 @@ pub fn exchange_separate_u16(
         total,
         inplace: false,
     };
-    let mut send = [0u32; WORDS];
-    let mut words = [0u32; WORDS];
+    let mut send = [0u32; Transaction::MAX_WORDS];
+    let mut words = [0u32; Transaction::MAX_WORDS];
     pack_words_u16(order, write, total, &mut send);
     let driven = run_words(
         driver,
@@ -160,8 +159,8 @@ pub fn exchange_separate_u32(
         total,
         inplace: false,
     };
-    let mut send = [0u32; WORDS];
-    let mut words = [0u32; WORDS];
+    let mut send = [0u32; Transaction::MAX_WORDS];
+    let mut words = [0u32; Transaction::MAX_WORDS];
     pack_words_u32(order, write, total, &mut send);
     let driven = run_words(
         driver,

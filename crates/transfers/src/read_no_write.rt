@@ -1,7 +1,6 @@
 // `read_no_write`: transmit nothing and receive into a buffer.
 ghost use mathlib.Core.Path.{_≡_};
 ghost use Rattle.transfers.specs.Transfers.{transferLeft, readNoWrite};
-use crate::entry::WORDS;
 use crate::entry::result;
 use runs::drive::Frame;
 use runs::log::limits;
@@ -49,7 +48,7 @@ pub fn read_no_write_u8(
         inplace: false,
     };
     let send = [0u32; 0];
-    let mut words = [0u32; WORDS];
+    let mut words = [0u32; Transaction::MAX_WORDS];
     let driven = run_words(
         driver,
         driver
@@ -100,7 +99,7 @@ pub fn read_no_write_u16(
         inplace: false,
     };
     let send = [0u32; 0];
-    let mut words = [0u32; WORDS];
+    let mut words = [0u32; Transaction::MAX_WORDS];
     let driven = run_words(
         driver,
         driver
@@ -151,7 +150,7 @@ pub fn read_no_write_u32(
         inplace: false,
     };
     let send = [0u32; 0];
-    let mut words = [0u32; WORDS];
+    let mut words = [0u32; Transaction::MAX_WORDS];
     let driven = run_words(
         driver,
         driver

@@ -2,7 +2,6 @@
 ghost use mathlib.Core.List.{[]};
 ghost use mathlib.Core.Path.{_≡_};
 ghost use Rattle.transfers.specs.Transfers.{transferLeft, writeNoRead};
-use crate::entry::WORDS;
 use crate::entry::result;
 use runs::drive::Frame;
 use runs::log::limits;
@@ -49,7 +48,7 @@ pub fn write_no_read_u8(
         total,
         inplace: false,
     };
-    let mut send = [0u32; WORDS];
+    let mut send = [0u32; Transaction::MAX_WORDS];
     let mut words = [0u32; 0];
     pack_words_u8(order, buf, total, &mut send);
     let driven = run_words(
@@ -98,7 +97,7 @@ pub fn write_no_read_u16(
         total,
         inplace: false,
     };
-    let mut send = [0u32; WORDS];
+    let mut send = [0u32; Transaction::MAX_WORDS];
     let mut words = [0u32; 0];
     pack_words_u16(order, buf, total, &mut send);
     let driven = run_words(
@@ -147,7 +146,7 @@ pub fn write_no_read_u32(
         total,
         inplace: false,
     };
-    let mut send = [0u32; WORDS];
+    let mut send = [0u32; Transaction::MAX_WORDS];
     let mut words = [0u32; 0];
     pack_words_u32(order, buf, total, &mut send);
     let driven = run_words(

@@ -6,3 +6,5 @@ pub mod ClockLaws
 mod Spread
 mod Setter
 mod SetterValues
+mod SetterCall
+mod PlainFn

@@ -1,4 +1,4 @@
--- The types of the values that a setter of the command sets, as `Setter.antt` asks for them.
+-- The types of the values that a setter of the command sets, and the command itself, as `Setter.antt` asks for them.
 -- Assumes nothing.
 use mathlib.Core.Path.{refl}
 use mathlib.Core.List.{[], _∷_}
@@ -15,6 +15,8 @@ use Rattle.words.proofs.mode.Mode as Mode
 use Rattle.words.proofs.mode.Mode.Laws as Mode′
 use Rattle.words.proofs.order.BitOrder as BitOrder
 use Rattle.words.proofs.order.BitOrder.Laws as BitOrder′
+use Rattle.words.proofs.transaction.Transaction as Transaction
+use Rattle.words.proofs.transaction.Transaction.Laws as Transaction′
 
 abbrev pub flag : Settable bool
 flag = record {
@@ -56,6 +58,18 @@ mode = record {
   tells = LL.tells Mode.the-type Mode′.the-laws;
   typed = λ 𝓤 H A W x is. LL.lawful Mode.the-type Mode′.the-laws 𝓤 H A W .typed x (LL.val Mode.the-type Mode′.the-laws x ∷ []) is .0;
   makes = λ 𝓤 H A W. LL.makes Mode.the-type Mode′.the-plain 𝓤 H A;
+  last = λ x. tt;
+  silent = λ x w. refl;
+}
+
+-- a command itself
+abbrev pub command : Settable Transaction.the-row
+command = record {
+  ty = Transaction′.mir;
+  val = LL.val Transaction.the-type Transaction′.the-laws;
+  tells = LL.tells Transaction.the-type Transaction′.the-laws;
+  typed = λ 𝓤 H A W x is. LL.lawful Transaction.the-type Transaction′.the-laws 𝓤 H A W .typed x (LL.val Transaction.the-type Transaction′.the-laws x ∷ []) is .0;
+  makes = λ 𝓤 H A W. LL.makes Transaction.the-type Transaction′.the-plain 𝓤 H A;
   last = λ x. tt;
   silent = λ x w. refl;
 }

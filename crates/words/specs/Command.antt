@@ -1,6 +1,6 @@
 -- The command of a transfer (document 01, Commands): TCR's word.
 -- Assumes nothing.
-use Prim.Native.Nat.{ℕ, _-_, _%_}
+use Prim.Native.Nat.{ℕ, _+_, _*_, _-_, _%_}
 use mathlib.Core.Bool.{Bool, true, false, cond, not, _&&_}
 use lib.Dec.{leb, eqb}
 use Rattle.words.specs.declared.order.BitOrder.{BitOrder}
@@ -70,6 +70,10 @@ cpolOf IdleHigh = 1
 abbrev pub cphaOf : Phase → ℕ
 cphaOf CaptureOnFirstTransition = 0
 cphaOf CaptureOnSecondTransition = 1
+
+-- MODE_0 has CPOL and CPHA 0, MODE_3 both 1; in MODE_1 only CPHA is 1, in MODE_2 only CPOL (private contracts cite it)
+abbrev pub modeNumber : Mode → ℕ
+modeNumber m = 2 * cpolOf (m .polarity) + cphaOf (m .phase)
 
 -- "Setters of `Transaction` change .. only their own field": what each makes of a command's word
 abbrev pub setFlag : TcrField → Bool → ℕ → ℕ

@@ -1,7 +1,7 @@
 // The SPI mode and the chip select of a command.
 ghost use mathlib.Core.Path.{_≡_};
 ghost use Prim.Native.Nat.{_≤_};
-ghost use Rattle.words.specs.Command.{cpolOf, cphaOf, pcsOf};
+ghost use Rattle.words.specs.Command.{cpolOf, cphaOf, modeNumber, pcsOf};
 
 pub enum Polarity {
     IdleLow,
@@ -61,6 +61,31 @@ pub const MODE_3: Mode = Mode {
     polarity: Polarity::IdleHigh,
     phase: Phase::CaptureOnSecondTransition,
 };
+
+// The number of each mode is its CPOL above its CPHA.
+fn mode_0() -> Mode
+    ensures { λ r. ⌜ modeNumber r ≡ 0 ⌝ }
+{
+    MODE_0
+}
+
+fn mode_1() -> Mode
+    ensures { λ r. ⌜ modeNumber r ≡ 1 ⌝ }
+{
+    MODE_1
+}
+
+fn mode_2() -> Mode
+    ensures { λ r. ⌜ modeNumber r ≡ 2 ⌝ }
+{
+    MODE_2
+}
+
+fn mode_3() -> Mode
+    ensures { λ r. ⌜ modeNumber r ≡ 3 ⌝ }
+{
+    MODE_3
+}
 
 // Peripheral chip select.
 pub enum Pcs {

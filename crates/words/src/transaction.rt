@@ -2,8 +2,9 @@
 ghost use mathlib.Core.Path.{_≡_};
 ghost use Prim.Native.Nat.{_*_};
 ghost use lib.ListN.{length};
-ghost use Rattle.words.specs.Command.{flagOf, setFlag, setOrder, setMode, setPcs, frameAccepted, commandAnswer, framed};
+ghost use Rattle.words.specs.Command.{flagOf, setFlag, setOrder, setMode, setPcs, settingsWord, frameAccepted, commandAnswer, framed};
 ghost use Rattle.words.specs.Width.{widthBits};
+ghost use Rattle.words.specs.declared.width.Width.the-variants.{U8};
 ghost use Rattle.manual.specs.declared.Tcr.the-variants.{BYSW, RXMSK, TXMSK, CONT, CONTC};
 use super::mode::Mode;
 use super::mode::Pcs;
@@ -50,6 +51,22 @@ impl Transaction {
 
     // The elements of the longest frame, at width 8.
     pub const MAX_ELEMENTS: usize = 512;
+
+    // The FIFO words of the longest frame.
+    pub const MAX_WORDS: usize = 128;
+
+    // Both limits are those of the longest frame.
+    fn max_elements() -> usize
+        ensures { λ r. ⌜ widthBits U8 * r ≡ 4096 ⌝ }
+    {
+        Self::MAX_ELEMENTS
+    }
+
+    fn max_words() -> usize
+        ensures { λ r. ⌜ 32 * r ≡ 4096 ⌝ }
+    {
+        Self::MAX_WORDS
+    }
 
     fn frame_size_valid(frame_size: u16) -> bool
         ensures { λ r. ⌜ r ≡ frameAccepted «frame_size» ⌝ }
@@ -220,5 +237,40 @@ impl Transaction {
         ensures { λ _. ⌜ now (self .exit) .0 ≡ setPcs pcs (now (self .entry) .0) ⌝ }
     {
         *self = self.with_pcs(pcs);
+    }
+
+    // All settings but the frame size.
+    pub fn with_settings(
+        self,
+        byte_swap: bool,
+        bit_order: BitOrder,
+        receive_mask: bool,
+        transmit_mask: bool,
+        continuous: bool,
+        continuing: bool,
+        mode: Mode,
+        pcs: Pcs,
+    ) -> Self
+        ensures { λ r. ⌜ r .0 ≡ settingsWord (record {
+          byteSwap = «byte_swap»;
+          order = «bit_order»;
+          receiveMask = «receive_mask»;
+          transmitMask = «transmit_mask»;
+          continuous = continuous;
+          continuing = continuing;
+          mode = mode;
+          pcs = pcs;
+        }) (self .0) ⌝ }
+    {
+        let mut command = self;
+        command.set_bit_order(bit_order);
+        command.set_mode(mode);
+        command.set_pcs(pcs);
+        command.set_byte_swap(byte_swap);
+        command.set_receive_data_mask(receive_mask);
+        command.set_transmit_data_mask(transmit_mask);
+        command.set_continuous(continuous);
+        command.set_continuing(continuing);
+        command
     }
 }

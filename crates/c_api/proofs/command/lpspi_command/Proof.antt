@@ -1,5 +1,6 @@
--- `lpspi_command` meets its contract: each setter's field is the definition's.
+-- `lpspi_command` meets its contract: the settings are the host's, and the word that they are set in is the frame's.
 -- Assumes nothing.
+use Prim.Native.Nat.{ℕ}
 use mathlib.Core.Path.{ap, ap₂, sym, _∙_}
 use Rattle.manual.specs.declared.Tcr.the-variants.{BYSW, RXMSK, TXMSK, CONT, CONTC}
 use Rattle.words.specs.Command.{commandAnswer, setFlag, setOrder, setMode, setPcs}
@@ -27,54 +28,28 @@ returns c =
 order-of-requires : tie.Need-order-of-requires
 order-of-requires c κs = search needs
 
-with-bit-order-requires : tie.Need-with-bit-order-requires
-with-bit-order-requires c κs = search needs
-
 mode-of-requires : tie.Need-mode-of-requires
 mode-of-requires c κs = search needs
-
-with-mode-requires : tie.Need-with-mode-requires
-with-mode-requires c κs = search needs
 
 pcs-of-requires : tie.Need-pcs-of-requires
 pcs-of-requires c κs = search needs
 
-with-pcs-requires : tie.Need-with-pcs-requires
-with-pcs-requires c κs = search needs
-
-with-byte-swap-requires : tie.Need-with-byte-swap-requires
-with-byte-swap-requires c κs = search needs
-
-with-receive-data-mask-requires : tie.Need-with-receive-data-mask-requires
-with-receive-data-mask-requires c κs = search needs
-
-with-transmit-data-mask-requires : tie.Need-with-transmit-data-mask-requires
-with-transmit-data-mask-requires c κs = search needs
-
-with-continuous-requires : tie.Need-with-continuous-requires
-with-continuous-requires c κs = search needs
-
-with-continuing-requires : tie.Need-with-continuing-requires
-with-continuing-requires c κs = search needs
+with-settings-requires : tie.Need-with-settings-requires
+with-settings-requires c κs = search needs
 
 as-raw-requires : tie.Need-as-raw-requires
 as-raw-requires c κs = search needs
 
 returns-2 : tie.Need-returns-2
 returns-2 c =
-    let p = c .before .before .before .before .before .before .before .before .before .before in
-    let s = p .before .before .before in
+    let s = c .before .before .before .before .before .before in
     let a = s .before .before .before .args in
     let yes = accepted-word (a .frame-size) _ (ap commandAnswer (sym (s .command .given .1)) ∙ s .before .before .command-of .ensures) in
-    let order = p .with-bit-order .ensures ∙ ap₂ setOrder (p .before .order-of .ensures) (yes .1) in
-    let mode = c .before .before .before .before .before .before .before .before .with-mode .ensures ∙ ap₂ setMode (c .before .before .before .before .before .before .before .before .before .mode-of .ensures) order in
-    let pcs = c .before .before .before .before .before .before .with-pcs .ensures ∙ ap₂ setPcs (c .before .before .before .before .before .before .before .pcs-of .ensures) mode in
-    let swap = c .before .before .before .before .before .with-byte-swap .ensures ∙ ap (setFlag BYSW (a .byte-swap)) pcs in
-    let receive = c .before .before .before .before .with-receive-data-mask .ensures ∙ ap (setFlag RXMSK (a .receive-mask)) swap in
-    let transmit = c .before .before .before .with-transmit-data-mask .ensures ∙ ap (setFlag TXMSK (a .transmit-mask)) receive in
-    let continuous = c .before .before .with-continuous .ensures ∙ ap (setFlag CONT (a .continuous)) transmit in
-    let continuing = c .before .with-continuing .ensures ∙ ap (setFlag CONTC (a .continuing)) continuous in
-    rw (yes .0) (ap (answered 0) (c .as-raw .ensures ∙ continuing))
+    let order = ap₂ setOrder (c .before .before .before .before .order-of .ensures) (yes .1) in
+    let bus = ap₂ setPcs (c .before .before .pcs-of .ensures) (ap₂ setMode (c .before .before .before .mode-of .ensures) order) in
+    let masks : ℕ → ℕ = λ w. setFlag TXMSK (a .transmit-mask) (setFlag RXMSK (a .receive-mask) (setFlag BYSW (a .byte-swap) w)) in
+    let set = ap (λ w. setFlag CONTC (a .continuing) (setFlag CONT (a .continuous) (masks w))) bus in
+    rw (yes .0) (ap (answered 0) (c .as-raw .ensures ∙ c .before .with-settings .ensures ∙ set))
 
 pub lpspi-command-spec : {M : Type 1} → statement M
 lpspi-command-spec =
@@ -85,15 +60,8 @@ lpspi-command-spec =
     enum-told
     returns
     order-of-requires
-    with-bit-order-requires
     mode-of-requires
-    with-mode-requires
     pcs-of-requires
-    with-pcs-requires
-    with-byte-swap-requires
-    with-receive-data-mask-requires
-    with-transmit-data-mask-requires
-    with-continuous-requires
-    with-continuing-requires
+    with-settings-requires
     as-raw-requires
     returns-2)

@@ -1,0 +1,109 @@
+-- Demand 3 of what a host is left with by `lpspi_trial_*`: where the number is 0, the read buffers that it lent and both ends satisfy
+-- `Agreement`; and what a host may conclude from the words of the states alone.
+-- Assumes nothing.
+use Prim.Native.Nat.{ℕ, _+_, _/_, _<_, _≤_}
+use mathlib.Core.Bool.{Bool, true, false, cond}
+use mathlib.Core.List.{List, _++_}
+use mathlib.Core.Path.{_≡_, refl, sym, ap, ap₂, _∙_, subst}
+use native.Mathlib.Omega.{arith}
+use lib.ListN.{length, getD, length-append, List·getD-append}
+use lib.Seq.{getD-append-add}
+use Rattle.words.specs.declared.width.Width.{Width}
+use Rattle.words.specs.declared.width.Width.the-variants.{U8, U16, U32}
+use Rattle.words.specs.Width.{widthBits}
+use Rattle.words.proofs.LaidLaws.{laid-at}
+use Rattle.words.proofs.WordLaws.{Elements}
+use Rattle.bus.specs.declared.board.Board.{Board}
+use Rattle.bus.specs.Start.{Start, unfit}
+use Rattle.bus.specs.Events.{pairAfter}
+use Rattle.bus.specs.Agreement.{Seen, OkTwice, bufferOf, Holds, Agreement}
+use Rattle.bus.specs.Codes.{eventsOf}
+use Rattle.bus.specs.Trial.{Slices, pick, placed, startOf, TrialLeft, trialOf}
+use Rattle.bus.proofs.Demand3.{agreement}
+use Rattle.c_api.specs.HostBus.{boardOf, lent, stateWords, stateLeft, HostTrial, trialBy}
+use Rattle.c_api.proofs.AnswerLaws.{ok-of-numbers}
+use Rattle.c_api.proofs.PairLaws.{length-state}
+
+picked : (w : Width) (xs : List ℕ) (s : Slices) → pick w (placed w xs s) ≡ xs
+picked U8 xs s = refl
+picked U16 xs s = refl
+picked U32 xs s = refl
+
+fits-by : (b : Bool) (x y : TrialLeft) → x .number ≡ 9 → cond b x y .number ≡ 0 → b ≡ false
+fits-by true x y e h = absurd (omega (arith, e, h))
+fits-by false x y e h = refl
+
+module _ (w : Width) (gateDriver antennaDriver inplace gateExponent antennaExponent : ℕ)
+    (gateRead gateWrite antennaRead antennaWrite events state : List ℕ) where
+  abbrev pub gateStart : Start
+  gateStart = startOf (boardOf w gateDriver inplace gateExponent) (lent w gateRead) (lent w gateWrite)
+
+  abbrev pub antennaStart : Start
+  antennaStart = startOf (boardOf w antennaDriver (inplace / 2) antennaExponent) (lent w antennaRead) (lent w antennaWrite)
+
+  abbrev pub left : HostTrial
+  left = trialBy w gateDriver antennaDriver inplace gateExponent antennaExponent gateRead gateWrite antennaRead antennaWrite events state
+
+  abbrev pub outcome : TrialLeft
+  outcome =
+      trialOf (boardOf w gateDriver inplace gateExponent) (boardOf w antennaDriver (inplace / 2) antennaExponent) (lent w gateRead) (lent w gateWrite) (lent w antennaRead)
+      (lent w antennaWrite) events
+
+  small : (p : Bool) (reads writes : List ℕ) → Elements (widthBits w) reads → Elements (widthBits w) writes
+      → Elements (widthBits w) (cond p (pick w (lent w reads)) (pick w (lent w writes)))
+  small true reads writes r s = subst (λ (xs : List ℕ). Elements (widthBits w) xs) (sym (picked w reads _)) r
+  small false reads writes r s = subst (λ (xs : List ℕ). Elements (widthBits w) xs) (sym (picked w writes _)) s
+
+  -- DEMAND 3, over the read buffers that the host lent
+  pub host-agreement : Elements (widthBits w) gateRead → Elements (widthBits w) gateWrite → Elements (widthBits w) antennaRead
+      → Elements (widthBits w) antennaWrite → left .number ≡ 0
+      → Agreement gateStart antennaStart (eventsOf events) (outcome .gate) (outcome .antenna) (left .gateRead) (left .antennaRead)
+  host-agreement gr gw ar aw zero-number =
+      let fits : unfit gateStart antennaStart ≡ false = fits-by (unfit gateStart antennaStart) _ _ refl zero-number in
+      let after = pairAfter gateStart antennaStart (eventsOf events) in
+      rw (fits, picked w (bufferOf gateStart (after .gate)) (lent w gateRead), picked w (bufferOf antennaStart (after .antenna)) (lent w antennaRead))
+      (agreement gateStart antennaStart fits (small (gateStart .board .inplace) gateRead gateWrite gr gw)
+      (small (antennaStart .board .inplace) antennaRead antennaWrite ar aw) (eventsOf events))
+
+  -- THE STATES: where the number is 0 and 136 words were lent, word i of the gate's 68 and of the antenna's
+  module _ (room : 136 ≤ length state) (zero-number : left .number ≡ 0) where
+    abbrev g : Seen
+    g = outcome .gate
+
+    abbrev a : Seen
+    a = outcome .antenna
+
+    all-words : length (stateWords g ++ stateWords a) ≡ 136
+    all-words = length-append (stateWords g) (stateWords a) ∙ ap₂ _+_ (length-state g) (length-state a)
+
+    state-at : (i : ℕ) → i < 136 → getD (left .state) i 0 ≡ getD (stateWords g ++ stateWords a) i 0
+    state-at i l =
+        ap (λ (n : ℕ). getD (stateLeft n g a state) i 0) zero-number
+        ∙ laid-at (stateWords g ++ stateWords a) state i (omega (arith, all-words)) (omega arith)
+
+    pub gate-state : (i : ℕ) → i < 68 → getD (left .state) i 0 ≡ getD (stateWords g) i 0
+    gate-state i l = state-at i (omega arith) ∙ List·getD-append (stateWords g) (stateWords a) 0 i (omega (arith, length-state g))
+
+    pub antenna-state : (i : ℕ) → i < 68 → getD (left .state) (68 + i) 0 ≡ getD (stateWords a) i 0
+    antenna-state i l =
+        state-at (68 + i) (omega arith)
+        ∙ ap (λ (n : ℕ). getD (stateWords g ++ stateWords a) (n + i) 0) (sym (length-state g))
+        ∙ getD-append-add (stateWords g) (stateWords a) i 0
+
+    ok-of-state : (x : Seen) (at : ℕ → ℕ) → ((i : ℕ) → i < 68 → at i ≡ getD (stateWords x) i 0) → at 0 ≡ 0 → at 1 ≡ 0 → OkTwice x
+    ok-of-state x at h t f = ok-of-numbers x (sym (h 0 (omega arith)) ∙ t) (sym (h 1 (omega arith)) ∙ f)
+
+    -- Ok twice, as a host reads it: words 0 and 1 are 0, and 68 and 69. So what `Agreement` says of such ends, it says of these words
+    pub gate-ok : getD (left .state) 0 0 ≡ 0 → getD (left .state) 1 0 ≡ 0 → OkTwice g
+    gate-ok = ok-of-state g (λ i. getD (left .state) i 0) gate-state
+
+    pub antenna-ok : getD (left .state) 68 0 ≡ 0 → getD (left .state) 69 0 ≡ 0 → OkTwice a
+    antenna-ok = ok-of-state a (λ i. getD (left .state) (68 + i) 0) antenna-state
+
+    -- WHAT A HOST MAY CONCLUDE from four answers 0: each read buffer has the other board's elements, or fillers
+    pub host-holds : Elements (widthBits w) gateRead → Elements (widthBits w) gateWrite → Elements (widthBits w) antennaRead
+        → Elements (widthBits w) antennaWrite → getD (left .state) 0 0 ≡ 0 → getD (left .state) 1 0 ≡ 0 → getD (left .state) 68 0 ≡ 0
+        → getD (left .state) 69 0 ≡ 0 → Holds gateStart antennaStart (left .gateRead) × Holds antennaStart gateStart (left .antennaRead)
+    host-holds gr gw ar aw gt gf at af =
+        let d = host-agreement gr gw ar aw zero-number in
+        (d .gateHolds (gate-ok gt gf) (antenna-ok at af), d .antennaHolds (gate-ok gt gf) (antenna-ok at af))
