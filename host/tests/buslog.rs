@@ -2,13 +2,10 @@
 
 mod common;
 
-use common::buslog::{documented, example_output, largest, port, BAD, EXAMPLE_INPUT, LONGEST};
+use common::buslog::{
+    documented, example_output, largest, port, Text, BAD, EXAMPLE_INPUT, LONGEST,
+};
 use lpspi_host::{buslog, raw};
-use std::io::{stderr, ErrorKind, Write};
-use std::path::Path;
-use std::process::{Command, Stdio};
-use std::sync::Once;
-use std::{env, thread};
 
 /// An input of that length whose budget has zeros in front.
 fn padded(len: usize) -> String {
@@ -61,113 +58,112 @@ fn the_largest_inputs() {
     assert_eq!(buslog(padded(LONGEST + 1).as_bytes()), BAD.as_bytes());
 }
 
-/// Runs the program, if it is here, on an input that is written in pieces of that
-/// size. It must succeed, and say nothing on standard error.
-fn program(input: &[u8], piece: usize) -> Option<Vec<u8>> {
-    let path = Path::new(env!("CARGO_MANIFEST_DIR")).join("../target/bin/buslog");
-    if !path.is_file() {
-        missing(&path);
-        return None;
-    }
-    let mut child = Command::new(&path)
-        .stdin(Stdio::piped())
-        .stdout(Stdio::piped())
-        .stderr(Stdio::piped())
-        .spawn()
-        .expect("it starts");
-    let mut stdin = child.stdin.take().expect("piped");
-    let output = thread::scope(|scope| {
-        scope.spawn(move || {
-            for piece in input.chunks(piece) {
-                match stdin.write_all(piece) {
-                    // It reads no more than it needs.
-                    Err(error) if error.kind() == ErrorKind::BrokenPipe => break,
-                    written => written.expect("a pipe takes bytes"),
-                }
-            }
-        });
-        child.wait_with_output().expect("it ends")
-    });
-    assert!(output.status.success(), "{}", output.status);
-    assert_eq!(output.stderr, b"");
-    Some(output.stdout)
+/// Inputs, and the number in the last line of their listings.
+fn good_inputs() -> Vec<(Vec<u8>, &'static str)> {
+    let mut inputs: Vec<_> = [8, 16, 32].map(|width| (largest(width), "0")).into();
+    inputs.push((padded(LONGEST), "0"));
+    let small = [
+        (EXAMPLE_INPUT.trim_end(), "0"),
+        ("32 M 20\n\n129\n", "1"),
+        ("8 L 20\n\n0\n", "0"),
+        ("16 L 9\n1\n1\n0 4 0 0 4 0 1000 0", "4"),
+        ("8 M 4294967295\n\n0\n\n", "5"),
+    ];
+    inputs.extend(small.map(|(input, number)| (input.into(), number)));
+    let bytes = |(input, number): (String, _)| (input.into_bytes(), number);
+    inputs.into_iter().map(bytes).collect()
 }
 
-/// Says so once, or fails where `CI` is `true`.
-fn missing(path: &Path) {
-    static SAID: Once = Once::new();
-    let line = format!("not run: no {}; `rt check buslog` makes it", path.display());
-    let required = env::var("CI").is_ok_and(|ci| ci == "true");
-    assert!(!required, "{line}");
-    SAID.call_once(|| {
-        // The macros' output does not show where a test passes.
-        stderr().write_all((line + "\n").as_bytes()).unwrap();
-    });
+fn bad_inputs() -> Vec<Vec<u8>> {
+    const MEGABYTES: usize = 5_000_000;
+    let any = |place: usize| (place * place / 7) as u8;
+    vec![
+        b"".into(),
+        b"\n".into(),
+        b"8 M 20\r\nA5\r\n1\r\n0\r\n".into(),
+        b"\0".into(),
+        // A byte order mark; a line too many; three lines, the last without a newline.
+        format!("\u{FEFF}{EXAMPLE_INPUT}").into(),
+        format!("{EXAMPLE_INPUT}\n").into(),
+        b"8 M 20\nA5\n1".into(),
+        padded(LONGEST + 1).into(),
+        EXAMPLE_INPUT.repeat(10).into(),
+        vec![0; MEGABYTES],
+        vec![b'\n'; MEGABYTES],
+        padded(MEGABYTES).into(),
+        (0..MEGABYTES).map(any).collect(),
+    ]
 }
 
-/// Whatever is read, the program prints what the function gives.
-#[track_caller]
-fn check(input: &[u8], expected: &str) {
-    let given = buslog(input);
-    assert_eq!(number(&given), expected);
-    if let Some(printed) = program(input, usize::MAX) {
-        assert!(printed == given, "{}", printed.escape_ascii());
-    }
-}
-
-/// Also where the input comes a byte at a time.
 #[test]
-fn the_program_on_the_example() {
-    for piece in [usize::MAX, 1] {
-        if let Some(printed) = program(EXAMPLE_INPUT.as_bytes(), piece) {
-            assert_eq!(printed, example_output().as_bytes());
-        }
+fn numbers() {
+    for (input, expected) in good_inputs() {
+        assert_eq!(number(&buslog(&input)), expected);
+    }
+    for input in bad_inputs() {
+        assert_eq!(buslog(&input), BAD.as_bytes());
     }
 }
 
-/// docs/BUSLOG.md shows what the program prints; the scope document's example is there.
+/// docs/BUSLOG.md shows what is printed; the scope document's example is there.
 #[test]
-fn the_program_on_documented_inputs() {
+fn documented_inputs() {
     let pairs = documented();
     assert_eq!(pairs[0], (EXAMPLE_INPUT.into(), example_output()));
     for (input, listing) in pairs {
         assert_eq!(buslog(input.as_bytes()), listing.as_bytes());
-        if let Some(printed) = program(input.as_bytes(), usize::MAX) {
-            assert_eq!(printed, listing.as_bytes());
-        }
+    }
+}
+
+/// Runs the program, with a file name as argument, which it does not read.
+fn program(input: &[u8], piece: usize) -> Vec<u8> {
+    let file = concat!(env!("CARGO_MANIFEST_DIR"), "/../crates/buslog/stdin");
+    common::program::program("buslog", &[file], input, piece)
+}
+
+/// Whatever is read, the program prints what the function gives.
+fn check(input: &[u8]) {
+    let printed = program(input, usize::MAX);
+    let start = input.iter().take(80).copied().collect();
+    assert!(
+        printed == buslog(input),
+        "{:?}: {:?}",
+        Text(start),
+        Text(printed)
+    );
+}
+
+/// Also where the input comes a byte at a time.
+#[test]
+#[cfg_attr(not(buslog), ignore = "the program is missing")]
+fn the_program_on_the_example() {
+    for piece in [usize::MAX, 1] {
+        let printed = program(EXAMPLE_INPUT.as_bytes(), piece);
+        assert_eq!(printed, example_output().as_bytes());
     }
 }
 
 #[test]
+#[cfg_attr(not(buslog), ignore = "the program is missing")]
+fn the_program_on_documented_inputs() {
+    for (input, listing) in documented() {
+        assert_eq!(program(input.as_bytes(), usize::MAX), listing.as_bytes());
+    }
+}
+
+#[test]
+#[cfg_attr(not(buslog), ignore = "the program is missing")]
 fn the_program_on_good_inputs() {
-    for width in [8, 16, 32] {
-        check(largest(width).as_bytes(), "0");
+    for (input, _) in good_inputs() {
+        check(&input);
     }
-    check(padded(LONGEST).as_bytes(), "0");
-    check(EXAMPLE_INPUT.trim_end().as_bytes(), "0");
-    check(b"32 M 20\n\n129\n", "1");
-    check(b"8 L 20\n\n0\n", "0");
-    check(b"16 L 9\n1\n1\n0 4 0 0 4 0 1000 0", "4");
-    check(b"8 M 4294967295\n\n0\n\n", "5");
 }
 
+/// Of megabytes the program stops reading, so that not all can be written.
 #[test]
+#[cfg_attr(not(buslog), ignore = "the program is missing")]
 fn the_program_on_bad_inputs() {
-    check(b"", "bad");
-    check(b"\n", "bad");
-    check(b"8 M 20\r\nA5\r\n1\r\n0\r\n", "bad");
-    check(b"\0", "bad");
-    check(padded(LONGEST + 1).as_bytes(), "bad");
-    check(EXAMPLE_INPUT.repeat(10).as_bytes(), "bad");
-}
-
-/// The program stops reading, so that not all can be written.
-#[test]
-fn the_program_on_megabytes() {
-    const SIZE: usize = 5_000_000;
-    check(&vec![0; SIZE], "bad");
-    check(&vec![b'\n'; SIZE], "bad");
-    check(padded(SIZE).as_bytes(), "bad");
-    let any: Vec<u8> = (0..SIZE).map(|place| (place * place / 7) as u8).collect();
-    check(&any, "bad");
+    for input in bad_inputs() {
+        check(&input);
+    }
 }

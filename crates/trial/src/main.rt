@@ -1,12 +1,14 @@
-// Two boards over the bus, from standard input: trials of four lines each.
+// Two boards over the bus, from standard input: trials of four lines each, and empty lines between them.
 //
 //   M S2 P1      order (M or L); for the gate and for the antenna: S (separate) or P (in place), and the FIFO exponent
-//   HELLO        the gate's bytes, as text
-//   tag 7        the antenna's bytes
+//   HELLO        the gate's elements, as text: each byte is one
+//   tag 7        the antenna's elements
 //   gggg aaaa c  events: g and a steps of gate and antenna, G and A busy ones, c a clock, t and r noise at the gate (T, R), T and R at the antenna
 //
-// A separate read buffer is as long as the longer line and starts as zeros. A space between events is none. At most 512 bytes a board and 65,536
-// letters and spaces of events. A trial that is not so prints `bad`. Lines missing at the end count as empty. docs/BUS.md walks through it.
+// An element has 8 bits, unless the first line goes on with the gate's and the antenna's width (8, 16 or 32), as in `M S2 P1 16 16`.
+// A separate read buffer is as long as the longer line and starts as zeros. A space between events is none. At most 512 elements a board and
+// 65,536 letters and spaces of events. A trial that is not so prints `bad` and its number, from 1 on. Lines missing at the end count as empty.
+// An input of more than 262,144 bytes prints `bad`, and none of its trials is run. docs/BUS.md walks through it.
 ghost use Prim.Native.Nat.{_<_, _≤_, max};
 ghost use mathlib.Core.Path.{_≡_};
 ghost use lib.ListN.{length};
@@ -20,6 +22,9 @@ use sequences::access::Access;
 use sequences::driver::Lpspi;
 use words::order::BitOrder;
 use words::width::Width;
+
+// The longest input.
+const INPUT: usize = 262_144;
 
 fn text(bytes: &[u8]) {
     io::write_all(STDOUT_FILENO, bytes);
@@ -40,9 +45,35 @@ fn byte(b: u8) {
     io::print_hex(STDOUT_FILENO, b as u64, 2);
 }
 
+fn half(h: u16) {
+    text(b" ");
+    io::print_hex(STDOUT_FILENO, h as u64, 4);
+}
+
 fn bytes(read: &[u8]) {
     for i in 0..read.len() {
         byte(read[i]);
+    }
+}
+
+fn halves(read: &[u16]) {
+    for i in 0..read.len() {
+        half(read[i]);
+    }
+}
+
+fn words(read: &[u32]) {
+    for i in 0..read.len() {
+        word(read[i]);
+    }
+}
+
+// A read buffer: the one of the board's width.
+fn show_elements(width: Width, read_u8: &[u8], read_u16: &[u16], read_u32: &[u32]) {
+    match width {
+        Width::U8 => bytes(read_u8),
+        Width::U16 => halves(read_u16),
+        Width::U32 => words(read_u32),
     }
     text(b"\n");
 }
@@ -95,6 +126,28 @@ fn show_end(end: EndState) {
     text(b"\n");
 }
 
+fn show_number(number: u32) {
+    text(b"number ");
+    decimal(number as u64);
+    text(b"\n");
+}
+
+// A board: what it comes to, and its read buffer.
+fn show(
+    name: &[u8],
+    end: EndState,
+    width: Width,
+    read_u8: &[u8],
+    read_u16: &[u16],
+    read_u32: &[u32],
+) {
+    text(name);
+    show_end(end);
+    text(name);
+    text(b" reads");
+    show_elements(width, read_u8, read_u16, read_u32);
+}
+
 // The place of the next newline, or the end.
 fn line_end(input: &[u8], from: usize) -> usize
     requires { ⌜ from ≤ length (now input) ⌝ }
@@ -102,7 +155,7 @@ fn line_end(input: &[u8], from: usize) -> usize
 {
     let mut n = from;
     while n < input.len() {
-        if input[n] == 10 {
+        if input[n] == b'\n' {
             return n;
         }
         n += 1;
@@ -158,19 +211,31 @@ fn events(line: &[u8], out: &mut [u8]) -> usize {
     n
 }
 
-fn byte_at(inplace: bool, from: &[u8], i: usize) -> u8 {
-    if inplace {
-        if i < from.len() {
-            return from[i];
-        }
-    }
-    0
+// The byte at a place of a line; 0 past its end.
+fn byte_at(line: &[u8], i: usize) -> u8 {
+    if i < line.len() { line[i] } else { 0 }
 }
 
-// In place the buffer holds its line; else it starts as zeros.
-fn fill(inplace: bool, from: &[u8], to: &mut [u8]) {
+// What a read buffer starts with at a place: its line's byte in place, else zero.
+fn start_at(inplace: bool, line: &[u8], i: usize) -> u8 {
+    if inplace { byte_at(line, i) } else { 0 }
+}
+
+fn fill_u8(inplace: bool, line: &[u8], to: &mut [u8]) {
     for i in 0..to.len() {
-        to[i] = byte_at(inplace, from, i);
+        to[i] = start_at(inplace, line, i);
+    }
+}
+
+fn fill_u16(inplace: bool, line: &[u8], to: &mut [u16]) {
+    for i in 0..to.len() {
+        to[i] = start_at(inplace, line, i) as u16;
+    }
+}
+
+fn fill_u32(inplace: bool, line: &[u8], to: &mut [u32]) {
+    for i in 0..to.len() {
+        to[i] = start_at(inplace, line, i) as u32;
     }
 }
 
@@ -178,66 +243,6 @@ fn larger(a: usize, b: usize) -> usize
     ensures { λ r. ⌜ r ≡ max a b ⌝ }
 {
     if a < b { b } else { a }
-}
-
-fn board(lsb: bool, inplace: bool, exponent: usize) -> Board {
-    let driver = Lpspi::new();
-    let order = if lsb { BitOrder::Lsb } else { BitOrder::Msb };
-    Board {
-        driver: driver.with_bit_order(order),
-        width: Width::U8,
-        inplace,
-        exponent,
-    }
-}
-
-// The trial, with room for the buffers.
-fn run(
-    gate: Board,
-    antenna: Board,
-    gate_read: &mut [u8],
-    gate_bytes: &[u8],
-    antenna_read: &mut [u8],
-    antenna_bytes: &[u8],
-    codes: &[u8],
-) {
-    fill(gate.inplace, gate_bytes, gate_read);
-    fill(antenna.inplace, antenna_bytes, antenna_read);
-    let mut gate_halves = [0u16; 1];
-    let mut gate_words = [0u32; 1];
-    let mut antenna_halves = [0u16; 1];
-    let mut antenna_words = [0u32; 1];
-    let halves = [0u16; 1];
-    let words = [0u32; 1];
-    let outcome = trial(
-        gate,
-        antenna,
-        gate_read,
-        &mut gate_halves,
-        &mut gate_words,
-        gate_bytes,
-        &halves,
-        &words,
-        antenna_read,
-        &mut antenna_halves,
-        &mut antenna_words,
-        antenna_bytes,
-        &halves,
-        &words,
-        codes,
-    );
-    text(b"number ");
-    decimal(outcome.number as u64);
-    text(b"\ngate");
-    let g = outcome.gate;
-    show_end(g);
-    text(b"gate reads");
-    bytes(gate_read);
-    text(b"antenna");
-    let a = outcome.antenna;
-    show_end(a);
-    text(b"antenna reads");
-    bytes(antenna_read);
 }
 
 // How long a read buffer is: in place as long as its own line, else as the longer one.
@@ -248,115 +253,303 @@ fn read_len(inplace: bool, own: usize, longer: usize) -> usize
     if inplace { own } else { longer }
 }
 
-fn lend(gate: Board, antenna: Board, gate_bytes: &[u8], antenna_bytes: &[u8], codes: &[u8])
-    requires { ⌜ (length (now «gate_bytes») ≤ 512) × (length (now «antenna_bytes») ≤ 512) ⌝ }
+// The trial, with buffers of every width for both boards.
+fn run(
+    gate: Board,
+    antenna: Board,
+    gate_u8: &mut [u8],
+    gate_u16: &mut [u16],
+    gate_u32: &mut [u32],
+    gate_line: &[u8],
+    gate_line_u16: &[u16],
+    gate_line_u32: &[u32],
+    antenna_u8: &mut [u8],
+    antenna_u16: &mut [u16],
+    antenna_u32: &mut [u32],
+    antenna_line: &[u8],
+    antenna_line_u16: &[u16],
+    antenna_line_u32: &[u32],
+    codes: &[u8],
+) {
+    let outcome = trial(
+        gate,
+        antenna,
+        gate_u8,
+        gate_u16,
+        gate_u32,
+        gate_line,
+        gate_line_u16,
+        gate_line_u32,
+        antenna_u8,
+        antenna_u16,
+        antenna_u32,
+        antenna_line,
+        antenna_line_u16,
+        antenna_line_u32,
+        codes,
+    );
+    let gate_width = gate.width;
+    let antenna_width = antenna.width;
+    show_number(outcome.number);
+    let g = outcome.gate;
+    show(
+        b"gate",
+        g,
+        gate_width,
+        &gate_u8[..],
+        &gate_u16[..],
+        &gate_u32[..],
+    );
+    let a = outcome.antenna;
+    show(
+        b"antenna",
+        a,
+        antenna_width,
+        &antenna_u8[..],
+        &antenna_u16[..],
+        &antenna_u32[..],
+    );
+}
+
+// Buffers for the antenna.
+fn with_antenna(
+    gate: Board,
+    antenna: Board,
+    longer: usize,
+    gate_u8: &mut [u8],
+    gate_u16: &mut [u16],
+    gate_u32: &mut [u32],
+    gate_line: &[u8],
+    gate_line_u16: &[u16],
+    gate_line_u32: &[u32],
+    antenna_line: &[u8],
+    codes: &[u8],
+)
+    requires { ⌜ (length (now «antenna_line») ≤ 512) × (longer ≤ 512) ⌝ }
 {
-    let longer = larger(gate_bytes.len(), antenna_bytes.len());
-    let mut gate_read = [0u8; 512];
-    let mut antenna_read = [0u8; 512];
-    let g = read_len(gate.inplace, gate_bytes.len(), longer);
-    let a = read_len(antenna.inplace, antenna_bytes.len(), longer);
+    let own = antenna_line.len();
+    let n = read_len(antenna.inplace, own, longer);
+    let mut read_u8 = [0u8; 512];
+    let mut read_u16 = [0u16; 512];
+    let mut read_u32 = [0u32; 512];
+    let mut line_u16 = [0u16; 512];
+    let mut line_u32 = [0u32; 512];
+    fill_u8(antenna.inplace, antenna_line, &mut read_u8);
+    fill_u16(antenna.inplace, antenna_line, &mut read_u16);
+    fill_u32(antenna.inplace, antenna_line, &mut read_u32);
+    fill_u16(true, antenna_line, &mut line_u16);
+    fill_u32(true, antenna_line, &mut line_u32);
     run(
         gate,
         antenna,
-        &mut gate_read[..g],
-        gate_bytes,
-        &mut antenna_read[..a],
-        antenna_bytes,
+        gate_u8,
+        gate_u16,
+        gate_u32,
+        gate_line,
+        gate_line_u16,
+        gate_line_u32,
+        &mut read_u8[..n],
+        &mut read_u16[..n],
+        &mut read_u32[..n],
+        antenna_line,
+        &line_u16[..own],
+        &line_u32[..own],
+        codes,
+    );
+}
+
+// Buffers for the gate, and then for the antenna.
+fn with_buffers(gate: Board, antenna: Board, gate_line: &[u8], antenna_line: &[u8], codes: &[u8])
+    requires { ⌜ (length (now «gate_line») ≤ 512) × (length (now «antenna_line») ≤ 512) ⌝ }
+{
+    let own = gate_line.len();
+    let longer = larger(own, antenna_line.len());
+    let n = read_len(gate.inplace, own, longer);
+    let mut read_u8 = [0u8; 512];
+    let mut read_u16 = [0u16; 512];
+    let mut read_u32 = [0u32; 512];
+    let mut line_u16 = [0u16; 512];
+    let mut line_u32 = [0u32; 512];
+    fill_u8(gate.inplace, gate_line, &mut read_u8);
+    fill_u16(gate.inplace, gate_line, &mut read_u16);
+    fill_u32(gate.inplace, gate_line, &mut read_u32);
+    fill_u16(true, gate_line, &mut line_u16);
+    fill_u32(true, gate_line, &mut line_u32);
+    with_antenna(
+        gate,
+        antenna,
+        longer,
+        &mut read_u8[..n],
+        &mut read_u16[..n],
+        &mut read_u32[..n],
+        gate_line,
+        &line_u16[..own],
+        &line_u32[..own],
+        antenna_line,
         codes,
     );
 }
 
 // S or P, and a digit.
 fn is_kind(kind: u8, digit: u8) -> bool {
-    if 48 <= digit && digit <= 57 {
-        return kind == 83 || kind == 80;
+    if b'0' <= digit && digit <= b'9' {
+        return kind == b'S' || kind == b'P';
     }
     false
 }
 
-// The bytes of a trial's first line.
-fn is_header(
-    order: u8,
-    gap: u8,
-    gate: u8,
-    gate_digit: u8,
-    space: u8,
-    antenna: u8,
-    digit: u8,
-) -> bool {
-    if order != 77 && order != 76 {
+// The order and the boards of a trial's first line.
+fn is_header(header: &[u8]) -> bool {
+    let order = byte_at(header, 0);
+    if order != b'M' && order != b'L' {
         return false;
     }
-    if gap != 32 || space != 32 {
+    if byte_at(header, 1) != b' ' || byte_at(header, 4) != b' ' {
         return false;
     }
-    if is_kind(gate, gate_digit) {
-        return is_kind(antenna, digit);
+    if is_kind(byte_at(header, 2), byte_at(header, 3)) {
+        return is_kind(byte_at(header, 5), byte_at(header, 6));
     }
     false
 }
 
 fn exponent(digit: u8) -> usize {
-    if digit < 48 {
+    if digit < b'0' {
         return 0;
     }
-    (digit - 48) as usize
+    (digit - b'0') as usize
 }
 
-fn bad() {
-    text(b"bad\n");
+// The width that stands behind a space at a place, in bits; 0 where none does.
+fn bits_at(header: &[u8], space: usize) -> u8
+    requires { ⌜ space ≤ 10 ⌝ }
+{
+    if byte_at(header, space) != b' ' {
+        return 0;
+    }
+    let first = byte_at(header, space + 1);
+    let second = byte_at(header, space + 2);
+    if first == b'8' {
+        return 8;
+    }
+    if first == b'1' && second == b'6' {
+        return 16;
+    }
+    if first == b'3' && second == b'2' {
+        return 32;
+    }
+    0
 }
 
-fn within(g: Board, a: Board, gate: &[u8], antenna: &[u8], codes: &[u8]) {
+// How many bytes a width takes, with its space.
+fn field_len(bits: u8) -> usize
+    ensures { λ r. ⌜ r ≤ 3 ⌝ }
+{
+    if bits == 8 { 2 } else { 3 }
+}
+
+// The gate's width; 0 where it is none.
+fn gate_bits(header: &[u8]) -> u8 {
+    if header.len() == 7 {
+        return 8;
+    }
+    bits_at(header, 7)
+}
+
+// The antenna's width, behind the gate's and at the line's end; 0 where it is none.
+fn antenna_bits(header: &[u8], gate: u8) -> u8 {
+    if header.len() == 7 {
+        return 8;
+    }
+    let space = 7 + field_len(gate);
+    let bits = bits_at(header, space);
+    if header.len() != space + field_len(bits) {
+        return 0;
+    }
+    bits
+}
+
+fn width(bits: u8) -> Width {
+    if bits == 32 {
+        return Width::U32;
+    }
+    if bits == 16 {
+        return Width::U16;
+    }
+    Width::U8
+}
+
+// The board whose kind and digit stand at a place of the first line.
+fn board_at(header: &[u8], place: usize, bits: u8) -> Board
+    requires { ⌜ place ≤ 5 ⌝ }
+{
+    let driver = Lpspi::new();
+    let order = if byte_at(header, 0) == b'L' {
+        BitOrder::Lsb
+    } else {
+        BitOrder::Msb
+    };
+    Board {
+        driver: driver.with_bit_order(order),
+        width: width(bits),
+        inplace: byte_at(header, place) == b'P',
+        exponent: exponent(byte_at(header, place + 1)),
+    }
+}
+
+// The checks of a trial's lines, one after the other, and then the trial; false where a line is bad.
+fn check_lengths(g: Board, a: Board, gate: &[u8], antenna: &[u8], codes: &[u8]) -> bool {
     if 512 < gate.len() {
-        return bad();
+        return false;
     }
     if 512 < antenna.len() {
-        return bad();
+        return false;
     }
-    lend(g, a, gate, antenna, codes);
+    with_buffers(g, a, gate, antenna, codes);
+    true
 }
 
-fn headed(header: &[u8], gate: &[u8], antenna: &[u8], codes: &[u8]) {
-    if header.len() != 7 {
-        return bad();
+fn check_header(header: &[u8], gate: &[u8], antenna: &[u8], codes: &[u8]) -> bool {
+    let gate_bits = gate_bits(header);
+    let antenna_bits = antenna_bits(header, gate_bits);
+    if gate_bits == 0 {
+        return false;
     }
-    if is_header(
-        header[0],
-        header[1],
-        header[2],
-        header[3],
-        header[4],
-        header[5],
-        header[6],
-    ) {
-        let lsb = header[0] == 76;
-        let g = board(lsb, header[2] == 80, exponent(header[3]));
-        let a = board(lsb, header[5] == 80, exponent(header[6]));
-        return within(g, a, gate, antenna, codes);
+    if antenna_bits == 0 {
+        return false;
     }
-    bad();
+    if is_header(header) {
+        let g = board_at(header, 2, gate_bits);
+        let a = board_at(header, 5, antenna_bits);
+        return check_lengths(g, a, gate, antenna, codes);
+    }
+    false
 }
 
-// With room for the events.
-fn read(header: &[u8], gate: &[u8], antenna: &[u8], letters: &[u8], codes: &mut [u8]) {
+fn check_events(
+    header: &[u8],
+    gate: &[u8],
+    antenna: &[u8],
+    letters: &[u8],
+    codes: &mut [u8],
+) -> bool {
     if are_events(letters) {
         if codes.len() < letters.len() {
-            return bad();
+            return false;
         }
         let n = events(letters, codes);
         if codes.len() < n {
-            return bad();
+            return false;
         }
-        return headed(header, gate, antenna, &codes[..n]);
+        return check_header(header, gate, antenna, &codes[..n]);
     }
-    bad();
+    false
 }
 
-fn one(header: &[u8], gate: &[u8], antenna: &[u8], letters: &[u8]) {
+// The trial of four lines, with room for its events; false where a line is bad.
+fn run_lines(header: &[u8], gate: &[u8], antenna: &[u8], letters: &[u8]) -> bool {
     let mut codes = [0u8; 65_536];
-    read(header, gate, antenna, letters, &mut codes);
+    check_events(header, gate, antenna, letters, &mut codes)
 }
 
 // The place after a line.
@@ -367,40 +560,64 @@ fn after(end: usize, len: usize) -> usize
     if end < len { end + 1 } else { len }
 }
 
-// The trial at a place; the place after it.
-fn trial_at(input: &[u8], from: usize) -> usize
-    requires { ⌜ from ≤ length (now input) ⌝ }
-    ensures { λ r. ⌜ r ≤ length (now (input .entry)) ⌝ }
+// The trial at a place, whose first line is not empty, with its number; the place after it.
+fn trial_at(input: &[u8], from: usize, number: usize) -> usize
+    requires { ⌜ from < length (now input) ⌝ }
+    ensures { λ r. ⌜ (from < r) × (r ≤ length (now (input .entry))) ⌝ }
 {
-    let a = line_end(input, from);
+    let a = line_end(input, from + 1);
     let from_gate = after(a, input.len());
     let b = line_end(input, from_gate);
     let from_antenna = after(b, input.len());
     let c = line_end(input, from_antenna);
     let from_events = after(c, input.len());
     let d = line_end(input, from_events);
-    one(
+    let next = after(d, input.len());
+    if run_lines(
         &input[from..a],
         &input[from_gate..b],
         &input[from_antenna..c],
         &input[from_events..d],
-    );
-    after(d, input.len())
+    ) {
+        return next;
+    }
+    text(b"bad ");
+    decimal(number as u64);
+    text(b"\n");
+    next
+}
+
+// The place of the next line that is not empty, or the end.
+fn past_empty(input: &[u8], from: usize) -> usize
+    requires { ⌜ from ≤ length (now input) ⌝ }
+    ensures { λ r. ⌜ (from ≤ r) × (r ≤ length (now (input .entry))) ⌝ }
+{
+    let mut n = from;
+    while n < input.len() {
+        if input[n] != b'\n' {
+            return n;
+        }
+        n += 1;
+    }
+    n
 }
 
 fn trials(input: &[u8]) {
-    let mut from = 0;
+    let mut number: usize = 0;
+    let mut from = past_empty(input, 0);
     while from < input.len() {
-        let next = trial_at(input, from);
-        if next <= from {
-            return;
-        }
-        from = next;
+        number += 1;
+        let next = trial_at(input, from, number);
+        from = past_empty(input, next);
     }
 }
 
 fn main() {
-    let mut input = [0u8; 262_144];
+    // One byte more than the longest input.
+    let mut input = [0u8; INPUT + 1];
     let n = io::read_full(STDIN_FILENO, &mut input);
+    if INPUT < n {
+        return text(b"bad\n");
+    }
     trials(&input[..n]);
 }

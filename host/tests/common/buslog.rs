@@ -1,10 +1,9 @@
 //! What `buslog` reads and prints.
 
+use super::document::shown;
 use super::run::{listing, Left, EXAMPLE_LISTING, MAX_BUDGET};
 use lpspi_host::raw;
 use std::fmt::{self, Debug, Formatter, UpperHex};
-use std::fs;
-use std::path::Path;
 
 pub const BAD: &str = "bad\n";
 
@@ -81,23 +80,7 @@ pub fn largest(width: usize) -> String {
 
 /// The inputs of docs/BUSLOG.md and their listings.
 pub fn documented() -> Vec<(String, String)> {
-    let path = Path::new(env!("CARGO_MANIFEST_DIR")).join("../docs/BUSLOG.md");
-    let page = fs::read_to_string(path).expect("docs/BUSLOG.md is there");
-    let pieces: Vec<_> = page.split("```").collect();
-    // Text, an input, text, a listing, and so on; text at last.
-    let pairs = pieces.chunks_exact(4).map(|pieces| {
-        let block = |piece: &str, name: &str| {
-            let body = piece
-                .strip_prefix(name)
-                .expect("inputs and listings alternate");
-            body.strip_prefix('\n')
-                .expect("a line of its own")
-                .to_owned()
-        };
-        (block(pieces[1], "input"), block(pieces[3], "listing"))
-    });
-    let pairs: Vec<_> = pairs.collect();
-    assert_eq!(pieces.len(), 4 * pairs.len() + 1);
-    assert!(pairs.len() >= 7, "only {} inputs", pairs.len());
+    let pairs = shown("BUSLOG.md", "listing");
+    assert!(pairs.len() >= 9, "only {} inputs", pairs.len());
     pairs
 }

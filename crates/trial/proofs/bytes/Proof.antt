@@ -6,10 +6,10 @@ use Rattle.trial.proofs.bytes.Statement.{statement}
 use Rattle.trial.proofs.bytes.Tie as tie
 
 abbrev Inv-loop : tie.InvT-loop
-Inv-loop read i₀ t3 i-end i = i ≤ i-end
+Inv-loop read i₀ i-end i = i ≤ i-end
 
 abbrev μ-loop : tie.MeasureT-loop
-μ-loop read i₀ t3 i-end i = i-end - i
+μ-loop read i₀ i-end i = i-end - i
 
 loop-holds : tie.Need-loop-holds Inv-loop μ-loop
 loop-holds c = search needs
@@ -29,12 +29,6 @@ loop-less c = search needs
 loop-again : tie.Need-loop-again Inv-loop μ-loop
 loop-again c = search needs
 
-slice-aggregate-text : tie.Need-slice-aggregate-text Inv-loop μ-loop
-slice-aggregate-text c = search needs
-
-text-requires : tie.Need-text-requires Inv-loop μ-loop
-text-requires c κs = search needs
-
 returns : tie.Need-returns Inv-loop μ-loop
 returns c = search needs
 
@@ -50,6 +44,4 @@ bytes-spec =
     add-i
     loop-less
     loop-again
-    slice-aggregate-text
-    text-requires
     returns)

@@ -4,20 +4,20 @@ use Prim.Native.Nat.{_-_, _≤_}
 use mathlib.Core.Path.{_≡_}
 use lib.ListN.{length}
 use borrow.Author.Needs.{needs}
-use Rattle.trial.proofs.fill.Statement.{statement}
-use Rattle.trial.proofs.fill.Tie as tie
+use Rattle.trial.proofs.fill_u8.Statement.{statement}
+use Rattle.trial.proofs.fill_u8.Tie as tie
 
 abbrev Inv-loop : tie.InvT-loop
-Inv-loop inplace from to₀ i₀ i-end to i = (i ≤ i-end) × (length to ≡ length to₀)
+Inv-loop inplace line to₀ i₀ i-end to i = (i ≤ i-end) × (length to ≡ length to₀)
 
 abbrev μ-loop : tie.MeasureT-loop
-μ-loop inplace from to₀ i₀ i-end to i = i-end - i
+μ-loop inplace line to₀ i₀ i-end to i = i-end - i
 
 loop-holds : tie.Need-loop-holds Inv-loop μ-loop
 loop-holds c = search needs
 
-byte-at-requires : tie.Need-byte-at-requires Inv-loop μ-loop
-byte-at-requires c κs = search needs
+start-at-requires : tie.Need-start-at-requires Inv-loop μ-loop
+start-at-requires c κs = search needs
 
 slice-write-to : tie.Need-slice-write-to Inv-loop μ-loop
 slice-write-to c = search needs
@@ -37,14 +37,14 @@ same-length c = search needs
 returns : tie.Need-returns Inv-loop μ-loop
 returns c = search needs
 
-pub fill-spec : {M : Type 1} → statement M
-fill-spec =
+pub fill-u8-spec : {M : Type 1} → statement M
+fill-u8-spec =
     tie.close
     (tie.spec
     Inv-loop
     μ-loop
     loop-holds
-    byte-at-requires
+    start-at-requires
     slice-write-to
     add-i
     loop-less
