@@ -4,6 +4,8 @@
     rt staticlib c_api; host/mutations.py [NUMBER ..]
 
 One line for each: in how many cases port and original part, random and directed ones. The first change is none, and must pass. It takes some minutes and is not part of the gate.
+
+A source other than the original is built only with LPSPI_ORIGINAL_CHANGED=1 and without CI=true (original/build.rs), so that is the environment of all changes but the first.
 """
 import os
 import re
@@ -110,12 +112,16 @@ with tempfile.TemporaryDirectory() as folder:
     path = os.path.join(folder, "lpspi.rs")
     env = dict(os.environ, LPSPI_ORIGINAL=path, RUST_BACKTRACE="0", LPSPI_SEED="1", LPSPI_COUNT="1")
     env.setdefault("CARGO_TARGET_DIR", os.path.join(HOST, "target/mutations"))
+    for variable in ("CI", "LPSPI_ORIGINAL_CHANGED"):
+        env.pop(variable, None)
     test = ["cargo", "test", "--quiet", "--locked", "--offline", "--manifest-path", HOST + "/Cargo.toml", "--test", "original", "--", "port::", "--show-output"]
     for number, (name, change) in enumerate(MUTATIONS):
         if only and number not in only:
             continue
         mutant = change(text)
         assert (mutant == text) == (number == 0), name
+        if number > 0:
+            env["LPSPI_ORIGINAL_CHANGED"] = "1"
         with open(path, "w") as file:
             file.write(mutant)
         out = subprocess.run(test, env=env, text=True, errors="replace", capture_output=True)

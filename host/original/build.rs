@@ -6,36 +6,57 @@
 //! give the doc comment that ends the published file an item to belong to.
 //!
 //! Without the source the crate is built with no driver, but not where `CI` is
-//! `true`.
+//! `true`. A source with another sum than the pinned one is refused, unless
+//! `LPSPI_ORIGINAL_CHANGED` is `1`; that does not count where `CI` is `true`.
 
+#[path = "build/pinned.rs"]
+mod pinned;
+#[path = "build/place.rs"]
+mod place;
+
+use std::io::ErrorKind;
 use std::path::{Path, PathBuf};
 use std::{env, fs, io};
 
-const VARIABLE: &str = "LPSPI_ORIGINAL";
-const BESIDE_REPOSITORY: &str = "../../../shared/docs/src/src/common/lpspi.rs";
+/// Where it is `1`, a changed source is built.
+const CHANGED: &str = "LPSPI_ORIGINAL_CHANGED";
 
 fn main() {
     println!("cargo::rustc-check-cfg=cfg(original)");
-    println!("cargo::rerun-if-env-changed={VARIABLE}");
-    println!("cargo::rerun-if-env-changed=CI");
 
     let package = PathBuf::from(env::var_os("CARGO_MANIFEST_DIR").expect("set by cargo"));
-    let source = package.join(env::var_os(VARIABLE).unwrap_or(BESIDE_REPOSITORY.into()));
-    println!("cargo::rerun-if-changed={}", source.display());
+    let source = place::source(&package);
     println!("cargo::rustc-env=LPSPI_SOURCE={}", source.display());
 
     let out = PathBuf::from(env::var_os("OUT_DIR").expect("set by cargo"));
-    match fs::read_to_string(&source) {
-        Ok(text) => {
+    match read(&source) {
+        Ok(Some(text)) => {
             write_modules(text, &package.join("src"), &out).expect("OUT_DIR is writable");
             println!("cargo::rustc-cfg=original");
         }
-        Err(error) if env::var("CI").is_ok_and(|ci| ci == "true") => println!(
-            "cargo::error=the original, {}: {error}; set {VARIABLE} to the path of lpspi.rs",
-            source.display()
-        ),
-        Err(_) => {}
+        Ok(None) => {}
+        Err(message) => println!("cargo::error={message}"),
     }
+}
+
+/// The text of the source, or none where it is missing and need not be there.
+fn read(source: &Path) -> Result<Option<String>, String> {
+    println!("cargo::rerun-if-env-changed={CHANGED}");
+    let ci = place::ci();
+    let text = match fs::read_to_string(source) {
+        Err(error) if error.kind() == ErrorKind::NotFound && !ci => return Ok(None),
+        Err(error) => {
+            let (path, variable) = (source.display(), place::VARIABLE);
+            return Err(format!(
+                "the original, {path}: {error}; set {variable} to the path of lpspi.rs"
+            ));
+        }
+        Ok(text) => text,
+    };
+    if ci || env::var(CHANGED).as_deref() != Ok("1") {
+        pinned::check(source, text.as_bytes())?;
+    }
+    Ok(Some(text))
 }
 
 /// Writes `lpspi.rs`, and `modules.rs` to include: an included file may not begin

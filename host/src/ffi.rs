@@ -136,6 +136,10 @@ macro_rules! transfers {
                     answers: *mut usize,
                 ) -> u32;
 
+                /// Answers 0 and puts both ends, the gate first, at the front of `state`, as far
+                /// as there is room: `raw::END_STATE` words each, see there. Or answers 9, boards
+                /// that make no pair: then `state` and both read buffers are as found. Look at the
+                /// number first: zeros lent as `state` would read as Ok twice at both ends.
                 #[allow(clippy::too_many_arguments)]
                 fn $trial(
                     gate_driver: u32,

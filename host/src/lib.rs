@@ -29,7 +29,7 @@ pub use disabled::{
 };
 pub use driver::{Driver, Run};
 pub use transfers::{exchange, exchange_separate, flush, read_no_write, write_no_read, Element};
-pub use trial::{trial, Board, Trial, END_STATE};
+pub use trial::{trial, Board, EndState, Trial};
 pub use values::{
     fifo_status, is_enabled, read_data, set_watermark, status, watermark, FifoStatus,
 };

@@ -16,7 +16,7 @@ mod trial;
 
 use crate::{ffi, BitOrder, Command};
 pub use runs::{disabled, flush, get, reset, set, transfer};
-pub use trial::trial;
+pub use trial::{trial, END_STATE};
 
 /// The TCR word of a command.
 #[inline]

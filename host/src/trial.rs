@@ -1,6 +1,7 @@
 //! Trials: two boards on one bus, and a list of events.
 
-use crate::{answer, raw, Driver, Element, Error};
+use crate::raw::{self, END_STATE};
+use crate::{answer, Driver, Element, Error};
 
 /// What an end of the bus starts with.
 #[derive(Debug)]
@@ -17,19 +18,63 @@ pub struct Board<'a, W> {
     pub write: &'a [W],
 }
 
-/// Words of an end's state.
-pub const END_STATE: usize = 68;
+/// The state of an end after a list of events.
+#[derive(Debug, Clone, Copy, PartialEq, Eq)]
+pub struct EndState([u32; END_STATE]);
+
+impl EndState {
+    /// What the transfer has answered, if it has.
+    pub fn transfer(&self) -> Option<Result<(), Error>> {
+        answered(self.0[0])
+    }
+
+    /// What the flush has answered, if it has.
+    pub fn flush(&self) -> Option<Result<(), Error>> {
+        answered(self.0[1])
+    }
+
+    /// Whether transfer and flush have both answered Ok.
+    pub fn ok_twice(&self) -> bool {
+        [self.transfer(), self.flush()] == [Some(Ok(())); 2]
+    }
+
+    /// The flag T: a transmit error.
+    pub fn transmit_error(&self) -> bool {
+        self.0[2] == 1
+    }
+
+    /// The flag R: a receive error.
+    pub fn receive_error(&self) -> bool {
+        self.0[3] == 1
+    }
+
+    /// The words still to be sent, in their order.
+    pub fn to_send(&self) -> &[u32] {
+        &self.0[6..][..self.0[4] as usize]
+    }
+
+    /// The words that arrived and are still to be read, in their order.
+    pub fn to_read(&self) -> &[u32] {
+        &self.0[22..][..self.0[5] as usize]
+    }
+
+    /// The 30 registers, by their offset divided by 4.
+    pub fn registers(&self) -> &[u32] {
+        &self.0[38..]
+    }
+}
+
+fn answered(number: u32) -> Option<Result<(), Error>> {
+    (number != 255).then(|| answer(number, ()))
+}
 
 /// What a list of events leaves, besides the read buffers.
 #[derive(Debug, Clone, Copy, PartialEq, Eq)]
 pub struct Trial {
-    /// Whether the boards make a pair.
-    pub result: Result<(), Error>,
-    /// The state of the gate and of the antenna: the result numbers of its transfer and
-    /// its flush, or 255; the flags T and R; the counts of words to be sent and received;
-    /// 16 places for the words of each; the 30 registers by their offset divided by 4.
-    /// All 0 where the boards make no pair.
-    pub ends: [[u32; END_STATE]; 2],
+    /// The gate's end.
+    pub gate: EndState,
+    /// The antenna's end.
+    pub antenna: EndState,
 }
 
 /// Lets the events happen to a gate and an antenna, both fresh.
@@ -37,8 +82,11 @@ pub struct Trial {
 /// Each byte is an event, modulo 9: a step of the gate without and with the busy bit,
 /// the same of the antenna, a clock, noise at the gate that sets T and R, the same at
 /// the antenna. Elements not received are kept.
-pub fn trial<W: Element>(gate: Board<W>, antenna: Board<W>, events: &[u8]) -> Trial {
-    let mut ends = [[0; END_STATE]; 2];
+///
+/// Boards that make no pair are refused with [`Error::Unpaired`]: there are no ends
+/// then, and the read buffers are as found.
+pub fn trial<W: Element>(gate: Board<W>, antenna: Board<W>, events: &[u8]) -> Result<Trial, Error> {
+    let mut states = [[0; END_STATE]; 2];
     let number = raw::trial(
         [gate.driver.number(), antenna.driver.number()],
         u32::from(gate.in_place) | u32::from(antenna.in_place) << 1,
@@ -46,10 +94,8 @@ pub fn trial<W: Element>(gate: Board<W>, antenna: Board<W>, events: &[u8]) -> Tr
         (gate.read, gate.write),
         (antenna.read, antenna.write),
         events,
-        ends.as_flattened_mut(),
+        states.as_flattened_mut(),
     );
-    Trial {
-        result: answer(number, ()),
-        ends,
-    }
+    let [gate, antenna] = states.map(EndState);
+    answer(number, Trial { gate, antenna })
 }

@@ -2,14 +2,12 @@
 
 mod common;
 
-use common::{lengths, original_is_here, Random};
+use common::{lengths, Random};
 use lpspi_host::{clock, command, pack_words_u8, unpack_words_u8, BitOrder};
 
 #[test]
+#[cfg_attr(not(original), ignore = "the original is missing")]
 fn buffers() {
-    if !original_is_here() {
-        return;
-    }
     let mut random = Random::new("original: buffers");
     for order in BitOrder::ALL {
         for len in lengths() {
@@ -33,10 +31,8 @@ fn buffers() {
 }
 
 #[test]
+#[cfg_attr(not(original), ignore = "the original is missing")]
 fn clocks() {
-    if !original_is_here() {
-        return;
-    }
     let mut random = Random::new("original: clocks");
     for _ in 0..100_000 {
         let (source, wanted) = (random.any_size().max(1), random.any_size().max(1));
@@ -51,10 +47,8 @@ fn clocks() {
 }
 
 #[test]
+#[cfg_attr(not(original), ignore = "the original is missing")]
 fn commands() {
-    if !original_is_here() {
-        return;
-    }
     let mut random = Random::new("original: commands");
     for frame_size in 0..=u16::MAX {
         let settings = random.command(frame_size.into());

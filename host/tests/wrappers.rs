@@ -2,8 +2,8 @@
 
 use lpspi_host::BitOrder::{Lsb, Msb};
 use lpspi_host::{
-    clock, command, pack_u8, pack_words_u8, raw, trial, unpack_u8, unpack_words_u8, BitOrder,
-    Board, Command, Direction, Driver, Error, Trial, END_STATE,
+    clock, command, pack_u8, pack_words_u8, raw, unpack_u8, unpack_words_u8, BitOrder, Command,
+    Direction, Error,
 };
 
 /// A value that no call below gives.
@@ -242,57 +242,5 @@ fn zero_clocks_are_refused() {
         assert_eq!(raw::clock(source, wanted, &mut word), 6);
         assert_eq!(word, FOUND);
         assert_eq!(clock(source, wanted), Err(Error::ZeroClock));
-    }
-}
-
-/// A trial of a gate that sends four bytes and an antenna in place, with turns of both
-/// and a clock at times.
-fn trial_of(gate: &mut [u8], antenna: &mut [u8], exponent: usize) -> Trial {
-    let event = |place: u8| match place % 20 {
-        19 => 4,
-        turn => turn % 2 * 2,
-    };
-    let events: Vec<u8> = (0..200).map(event).collect();
-    let driver = Driver::default();
-    let gate = Board {
-        driver,
-        in_place: false,
-        exponent: 4,
-        read: gate,
-        write: b"gate",
-    };
-    let antenna = Board {
-        driver,
-        in_place: true,
-        exponent,
-        read: antenna,
-        write: b"not sent",
-    };
-    trial(gate, antenna, &events)
-}
-
-#[test]
-fn both_ends_of_a_trial() {
-    let (mut gate, mut antenna) = ([0; 7], *b"antenna");
-    let left = trial_of(&mut gate, &mut antenna, 1);
-    assert_eq!(left.result, Ok(()));
-    assert_eq!(gate, *b"antenna");
-    assert_eq!(antenna, *b"gate\xFF\xFF\xFF");
-    for end in left.ends {
-        // Ok twice, no flag, no words; CR and TCR.
-        assert_eq!(end[..38], [0; 38]);
-        assert_eq!((end[38 + 4], end[38 + 24]), (1, 55));
-    }
-}
-
-#[test]
-fn boards_that_make_no_pair_are_refused() {
-    for (elements, exponent) in [(7, 5), (7, usize::MAX), (8, 4)] {
-        let (mut gate, mut antenna) = ([1; 7], vec![2; elements]);
-        let left = trial_of(&mut gate, &mut antenna, exponent);
-        assert_eq!(left.result, Err(Error::Unpaired));
-        assert_eq!((gate, antenna), ([1; 7], vec![2; elements]));
-        // No state is written: 255 would stand first in one.
-        assert_eq!(left.ends, [[0; END_STATE]; 2]);
     }
 }

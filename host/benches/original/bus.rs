@@ -50,8 +50,8 @@ fn job(name: &str, events: &[u8]) {
         let start = Instant::now();
         let left = run(black_box(&mut reads), black_box(&writes), black_box(events));
         best = best.min(start.elapsed());
-        let numbers = left.ends.map(|end| [end[0], end[1]]);
-        assert_eq!(numbers, [[0; 2]; 2], "{name}: both ends have Ok twice");
+        let ok_twice = [left.gate, left.antenna].map(|end| end.ok_twice());
+        assert_eq!(ok_twice, [true; 2], "{name}: both ends have Ok twice");
     }
     assert_eq!([&reads[1], &reads[0]], [&writes[0], &writes[1]], "{name}");
 
@@ -62,7 +62,8 @@ fn job(name: &str, events: &[u8]) {
 
 fn run(reads: &mut [Vec<u8>; 2], writes: &[Vec<u8>; 2], events: &[u8]) -> Trial {
     let [gate, antenna] = reads;
-    trial(board(gate, &writes[0]), board(antenna, &writes[1]), events)
+    let (gate, antenna) = (board(gate, &writes[0]), board(antenna, &writes[1]));
+    trial(gate, antenna, events).expect("the boards make a pair")
 }
 
 fn board<'a>(read: &'a mut [u8], write: &'a [u8]) -> Board<'a, u8> {

@@ -16,8 +16,7 @@ mod words;
 
 fn main() {
     if !original::AVAILABLE {
-        eprintln!("nothing to time the port against: no {}", original::SOURCE);
-        return;
+        panic!("nothing to time the port against: no {}", original::SOURCE);
     }
     words::time();
     println!();

@@ -1,5 +1,4 @@
-//! What the tests share: random values, comparisons of runs, and whether the original
-//! is here.
+//! What the tests share: random values, and comparisons of runs.
 
 // Each test file uses only a part.
 #![allow(dead_code)]
@@ -7,6 +6,8 @@
 pub mod branches;
 pub mod buslog;
 pub mod cases;
+pub mod document;
+pub mod program;
 pub mod random_runs;
 pub mod registers;
 pub mod run;
@@ -15,9 +16,12 @@ pub mod walk;
 
 use cases::Cases;
 use lpspi_host::{BitOrder, Command};
-use std::io::{stderr, Write};
-use std::sync::{Once, OnceLock};
+use std::sync::OnceLock;
 use std::time::{SystemTime, UNIX_EPOCH};
+
+// The build scripts of both packages have found the same: no test of the original is
+// ignored where it was built.
+const _: () = assert!(original::AVAILABLE == cfg!(original));
 
 /// `LPSPI_SEED`, if set.
 fn asked_seed() -> Option<u64> {
@@ -130,17 +134,4 @@ impl Random {
 /// Byte lengths around the word boundaries of small and large transfers.
 pub fn lengths() -> impl Iterator<Item = usize> + Clone {
     (0..=20).chain(60..=68).chain(124..=132).chain(508..=516)
-}
-
-/// Whether the original is here. If not, says so once.
-pub fn original_is_here() -> bool {
-    static SAID: Once = Once::new();
-    if !original::AVAILABLE {
-        SAID.call_once(|| {
-            // The macros' output does not show where a test passes.
-            let line = format!("not compared with the original: no {}\n", original::SOURCE);
-            stderr().write_all(line.as_bytes()).unwrap();
-        });
-    }
-    original::AVAILABLE
 }

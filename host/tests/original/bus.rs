@@ -7,7 +7,6 @@ mod lists;
 use crate::common::cases::Tally;
 use crate::common::transfer::{Element, Transfer};
 use crate::common::Random;
-use crate::original_is_here;
 use branches::{reached, Branch};
 use lists::{Chooser, Manner};
 use lpspi_host::{raw, BitOrder};
@@ -61,10 +60,8 @@ fn board<W: Both>([read, write]: [usize; 2], exponent: usize, lsb: bool) -> Boar
 }
 
 #[test]
+#[cfg_attr(not(original), ignore = "the original is missing")]
 fn clean_exchanges() {
-    if !original_is_here() {
-        return;
-    }
     for lsb in [false, true] {
         for [a, b] in [[1, 1], [2, 4], [4, 1]] {
             for [gate, antenna] in [
@@ -211,9 +208,6 @@ fn list<W: Both>(random: &mut Random) -> (usize, BTreeSet<Branch>) {
 
 /// Random lists of one width, so many of them compared after every event.
 fn lists<W: Both>(test: &'static str, count: u32) {
-    if !original_is_here() {
-        return;
-    }
     let mut random = Random::fixed(test);
     let mut tally = Tally::new(Branch::ALL);
     let mut compared = 0;
@@ -229,16 +223,19 @@ fn lists<W: Both>(test: &'static str, count: u32) {
 }
 
 #[test]
+#[cfg_attr(not(original), ignore = "the original is missing")]
 fn lists_with_bytes() {
     lists::<u8>("lists_with_bytes", 33_334);
 }
 
 #[test]
+#[cfg_attr(not(original), ignore = "the original is missing")]
 fn lists_with_halves() {
     lists::<u16>("lists_with_halves", 33_333);
 }
 
 #[test]
+#[cfg_attr(not(original), ignore = "the original is missing")]
 fn lists_with_words() {
     lists::<u32>("lists_with_words", 33_333);
 }

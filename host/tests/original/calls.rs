@@ -1,14 +1,12 @@
 //! The other calls of the original.
 
-use crate::{listed, original_is_here, SET};
+use crate::{listed, SET};
 use original::{Call, ClockConfigs, Direction, Driver, Failure, FifoStatus, Value};
 
 /// Every call that is neither a transfer nor a recovery.
 #[test]
+#[cfg_attr(not(original), ignore = "the original is missing")]
 fn other_calls() {
-    if !original_is_here() {
-        return;
-    }
     let (tx, rx) = (Direction::Tx, Direction::Rx);
     let fifo_status = FifoStatus {
         rxcount: 0x1F,
@@ -142,10 +140,8 @@ fn other_calls() {
 }
 
 #[test]
+#[cfg_attr(not(original), ignore = "the original is missing")]
 fn calls_that_change_the_driver() {
-    if !original_is_here() {
-        return;
-    }
     let (outcome, accesses) = listed(Call::Init, SET, 50, &[!0, 1, 0, 3, 0, 4]);
     let expected = "R 10 FFFFFFFF, W 10 FFFFFFFE, R 10 00000001, R 10 00000000, \
         R 10 00000003, W 10 00000001, R 10 00000000, W 10 00000300, W 24 00000003, \
@@ -169,10 +165,8 @@ fn calls_that_change_the_driver() {
 
 /// What the `Disabled` guard's destructor would do is not done in a stopped run.
 #[test]
+#[cfg_attr(not(original), ignore = "the original is missing")]
 fn stops_while_disabled() {
-    if !original_is_here() {
-        return;
-    }
     let configs = ClockConfigs {
         sckpcs: 1,
         pcssck: 2,
@@ -212,10 +206,8 @@ fn stops_while_disabled() {
 
 /// A panic is told from a stop. The guard restores MEN, as it unwinds.
 #[test]
+#[cfg_attr(not(original), ignore = "the original is missing")]
 fn panics() {
-    if !original_is_here() {
-        return;
-    }
     let call = Call::SetClockHz {
         source_hz: 1,
         clock_hz: 0,

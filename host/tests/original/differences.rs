@@ -1,6 +1,6 @@
 //! What docs/DIFFERENCES.md says of the Rust, at the inputs given there.
 
-use crate::{listed, original_is_here};
+use crate::listed;
 use original::{pack_word, unpack_word};
 use original::{Call, Direction, Driver, Element, Failure, Transfer, Value};
 use std::panic::catch_unwind;
@@ -24,10 +24,8 @@ fn clock(source_hz: u32, clock_hz: u32) -> (Result<Value, Failure>, String) {
 }
 
 #[test]
+#[cfg_attr(not(original), ignore = "the original is missing")]
 fn clocks() {
-    if !original_is_here() {
-        return;
-    }
     let written = |ccr: &str| (Ok(Value::Unit), format!("W 40 {ccr}"));
     assert_eq!(clock(257, 1), written("7F7F7FFE"));
     // Slower than the manual allows: SCKDIV is at least 4, and even.
@@ -43,10 +41,8 @@ fn clocks() {
 
 /// A level of 16 does not fit its field; the FIFO of `init` would have 32 words.
 #[test]
+#[cfg_attr(not(original), ignore = "the original is missing")]
 fn exponents_over_4() {
-    if !original_is_here() {
-        return;
-    }
     let set = |exponent, level| {
         let call = Call::SetWatermark(Direction::Tx, level);
         let (outcome, accesses) = listed(call, START, 50, &[exponent, 0]);
@@ -83,10 +79,8 @@ fn exponents_over_4() {
 /// An exponent is taken for a depth: no space at one of two words, nor at none of one,
 /// nor at four of sixteen.
 #[test]
+#[cfg_attr(not(original), ignore = "the original is missing")]
 fn space_in_the_transmit_fifo() {
-    if !original_is_here() {
-        return;
-    }
     for poll in [[0, 1, 1], [0, 0, 0], [0, 4, 4]] {
         let call = u8::call(Transfer::WriteNoRead(&[0]));
         let (outcome, _) = listed(call, START, 50, &poll.repeat(9));
@@ -95,10 +89,8 @@ fn space_in_the_transmit_fifo() {
 }
 
 #[test]
+#[cfg_attr(not(original), ignore = "the original is missing")]
 fn frame_sizes() {
-    if !original_is_here() {
-        return;
-    }
     let bytes = [0; 513];
     let write = |len| u8::call(Transfer::WriteNoRead(&bytes[..len]));
     let (_, accesses) = listed(write(512), START, 50, &[0, 1, 0]);
@@ -109,10 +101,8 @@ fn frame_sizes() {
 
 /// A soft reset writes DBT and SCKDIV from the cache, and not what CCR had.
 #[test]
+#[cfg_attr(not(original), ignore = "the original is missing")]
 fn cache() {
-    if !original_is_here() {
-        return;
-    }
     let script = [0, 0, 0, 0, 0, 0, 1, 0, 0, 0, 0, 0, 0, 0];
     let (outcome, accesses) = listed(Call::SoftReset, START, 50, &script);
     assert_eq!(outcome.number(), Some(0));
@@ -122,10 +112,8 @@ fn cache() {
 
 /// There is no limit of 8,000 accesses.
 #[test]
+#[cfg_attr(not(original), ignore = "the original is missing")]
 fn a_long_flush() {
-    if !original_is_here() {
-        return;
-    }
     let script = [vec![1 << 24; 7_998], vec![0; 3]].concat();
     let mut log = vec![0; 16_002];
     let outcome = original::run(Call::Flush, START, 8_001, &script, &mut log);
@@ -134,20 +122,16 @@ fn a_long_flush() {
 
 /// An `init` that does not return makes no driver.
 #[test]
+#[cfg_attr(not(original), ignore = "the original is missing")]
 fn a_stopped_init() {
-    if !original_is_here() {
-        return;
-    }
     let (outcome, _) = listed(Call::Init, crate::SET, 0, &[]);
     assert_eq!((outcome.number(), outcome.driver), (Some(4), crate::SET));
 }
 
 /// A closure may set nothing, or set twice while MEN is 0.
 #[test]
+#[cfg_attr(not(original), ignore = "the original is missing")]
 fn closures() {
-    if !original_is_here() {
-        return;
-    }
     let (outcome, accesses) = listed(Call::NoSetting, START, 50, &[1, 1, 0, 0]);
     assert_eq!(outcome.number(), Some(0));
     let expected = "R 10 00000001, R 10 00000001, W 10 00000000, R 10 00000000, \
@@ -168,10 +152,8 @@ fn closures() {
 
 /// Of too many elements the rest is left, and too many bytes panic but at width 32.
 #[test]
+#[cfg_attr(not(original), ignore = "the original is missing")]
 fn words_of_too_many() {
-    if !original_is_here() {
-        return;
-    }
     let five = [0x11, 0x22, 0x33, 0x44, 0x55];
     assert_eq!(pack_word(8, false, &five), (0x1122_3344, 4));
     assert_eq!(pack_word(16, false, &five[..3]), (0x0011_0022, 2));
@@ -184,10 +166,8 @@ fn words_of_too_many() {
 
 /// `unpack_word` is told bytes and not elements.
 #[test]
+#[cfg_attr(not(original), ignore = "the original is missing")]
 fn half_an_element() {
-    if !original_is_here() {
-        return;
-    }
     assert_eq!(unpack_word(16, false, 0x1122_3344, 1), []);
     assert_eq!(unpack_word(16, false, 0x1122_3344, 3), [0x3344]);
 }

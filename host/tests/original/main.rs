@@ -1,6 +1,6 @@
 //! The original itself, over script and log, and the port against it.
 //!
-//! Where the source is missing nothing is compared, and one line says so.
+//! Where the source is missing all these tests are ignored.
 
 mod bus;
 mod buslog;
@@ -11,7 +11,6 @@ mod differences;
 mod port;
 mod transfers;
 
-use common::original_is_here;
 use common::run::{found, listing};
 use original::{run, Call, Driver, Outcome};
 

@@ -1,14 +1,12 @@
 //! Transfers and recoveries of the original.
 
 use crate::common::run::{EXAMPLE_LISTING, EXAMPLE_SCRIPT};
-use crate::{listed, original_is_here, SET};
+use crate::{listed, SET};
 use original::{Call, Driver, Element, Transfer, Value};
 
 #[test]
+#[cfg_attr(not(original), ignore = "the original is missing")]
 fn the_example() {
-    if !original_is_here() {
-        return;
-    }
     let mut read = [0];
     let transfer = Transfer::ExchangeSeparate {
         read: &mut read,
@@ -23,10 +21,8 @@ fn the_example() {
 
 /// The other transfers. In place, the byte that is received first is sent.
 #[test]
+#[cfg_attr(not(original), ignore = "the original is missing")]
 fn one_way_and_in_place() {
-    if !original_is_here() {
-        return;
-    }
     let write = Transfer::WriteNoRead(&[0x1122, 0x3344, 0x5566]);
     let ready = [0, 0x404, 3].repeat(3);
     let (outcome, accesses) = listed(u16::call(write), Driver::default(), 50, &ready);
@@ -77,10 +73,8 @@ const RECOVERY_LISTING: &str = "\
     R 10 000000FE, W 10 000000FF, W 14 00001800";
 
 #[test]
+#[cfg_attr(not(original), ignore = "the original is missing")]
 fn recoveries() {
-    if !original_is_here() {
-        return;
-    }
     let (outcome, accesses) = listed(Call::RecoverFromError, SET, 50, &RECOVERY);
     assert_eq!(accesses.join(", "), RECOVERY_LISTING);
     assert_eq!((outcome.result, outcome.answers), (Ok(Value::Unit), 15));

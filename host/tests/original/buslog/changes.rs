@@ -5,7 +5,6 @@ use super::input::Input;
 use crate::common::buslog::{Text, BAD, EXAMPLE_INPUT};
 use crate::common::cases::{Cases, Tally};
 use crate::common::Random;
-use crate::original_is_here;
 use std::collections::BTreeSet;
 
 /// Inputs of each change.
@@ -74,10 +73,8 @@ fn random_byte(random: &mut Random) -> u8 {
 
 /// Each change makes some inputs bad and leaves others good.
 #[test]
+#[cfg_attr(not(original), ignore = "the original is missing")]
 fn changed_inputs() {
-    if !original_is_here() {
-        return;
-    }
     let mut random = Random::fixed("original: buslog, changes");
     let outcomes = Change::ALL.map(|change| [(change, false), (change, true)]);
     let mut tally = Tally::new(outcomes.concat());
@@ -96,10 +93,8 @@ fn changed_inputs() {
 /// Every byte inserted at every place of the scope document's example, every byte in
 /// every place, and every byte and every end left out.
 #[test]
+#[cfg_attr(not(original), ignore = "the original is missing")]
 fn every_change_of_the_example() {
-    if !original_is_here() {
-        return;
-    }
     let mut cases = Cases::new("original: buslog, example");
     let example = EXAMPLE_INPUT.as_bytes();
     for place in 0..=example.len() {
@@ -119,10 +114,8 @@ fn every_change_of_the_example() {
 
 /// Lines of fields, each of which may be right or wrong at its place.
 #[test]
+#[cfg_attr(not(original), ignore = "the original is missing")]
 fn random_lines() {
-    if !original_is_here() {
-        return;
-    }
     let mut random = Random::fixed("original: buslog, lines");
     let mut tally = Tally::new([false, true]);
     for _ in 0..4_000 {

@@ -7,7 +7,6 @@ use crate::common::buslog::{example_output, largest, Text, EXAMPLE_INPUT, LONGES
 use crate::common::cases::{Cases, Tally};
 use crate::common::transfer::{Element, Kind};
 use crate::common::{walk, Random};
-use crate::original_is_here;
 use std::fmt::UpperHex;
 
 /// Inputs of each width.
@@ -16,9 +15,6 @@ const INPUTS: usize = 4_000;
 /// Compares random inputs of one width. Every branch of the exchange must be reached,
 /// but for the places of stops, and every spelling.
 fn inputs<W: Element + UpperHex>(test: &'static str) {
-    if !original_is_here() {
-        return;
-    }
     let mut random = Random::fixed(test);
     let mut branches = Tally::new(branches::<W>());
     let mut spellings = Tally::new(Shown::ALL);
@@ -52,26 +48,27 @@ fn branches<W: Element>() -> impl Iterator<Item = Branch> {
 }
 
 #[test]
+#[cfg_attr(not(original), ignore = "the original is missing")]
 fn inputs_of_bytes() {
     inputs::<u8>("original: buslog, bytes");
 }
 
 #[test]
+#[cfg_attr(not(original), ignore = "the original is missing")]
 fn inputs_of_halves() {
     inputs::<u16>("original: buslog, halves");
 }
 
 #[test]
+#[cfg_attr(not(original), ignore = "the original is missing")]
 fn inputs_of_words() {
     inputs::<u32>("original: buslog, words");
 }
 
 /// The largest exchanges, and the longest input.
 #[test]
+#[cfg_attr(not(original), ignore = "the original is missing")]
 fn large_inputs() {
-    if !original_is_here() {
-        return;
-    }
     let mut cases = Cases::new("original: buslog, large");
     for width in [8, 16, 32] {
         let printed = compare(&mut cases, largest(width).into_bytes());

@@ -5,7 +5,6 @@ use super::input::Input;
 use crate::common::buslog::{port, Text, BAD};
 use crate::common::cases::Tally;
 use crate::common::Random;
-use crate::original_is_here;
 use std::collections::BTreeSet;
 
 /// Inputs of each fault.
@@ -150,10 +149,8 @@ impl Fault {
 
 /// Every fault makes a good input bad.
 #[test]
+#[cfg_attr(not(original), ignore = "the original is missing")]
 fn every_fault() {
-    if !original_is_here() {
-        return;
-    }
     let mut random = Random::fixed("original: buslog, faults");
     let mut tally = Tally::new(Fault::all());
     for fault in Fault::all() {

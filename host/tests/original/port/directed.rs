@@ -8,7 +8,6 @@ use crate::common::cases::{Cases, Tally};
 use crate::common::run::{Left, Limits, MAX_BUDGET};
 use crate::common::transfer::{Kind, Transfer};
 use crate::common::walk;
-use crate::original_is_here;
 use lpspi_host::{BitOrder, Driver};
 
 /// The polls of a transfer in which each side moves up to `most` words in its turn.
@@ -213,9 +212,6 @@ fn limits<W: Element>(directed: &mut Directed) {
 
 /// All of the above, at one width. Every branch must be reached.
 fn transfers<W: Element>(test: &'static str) {
-    if !original_is_here() {
-        return;
-    }
     let mut cases = Cases::new(test);
     for kind in Kind::ALL {
         let mut directed = Directed {
@@ -235,16 +231,19 @@ fn transfers<W: Element>(test: &'static str) {
 }
 
 #[test]
+#[cfg_attr(not(original), ignore = "the original is missing")]
 fn transfers_of_bytes() {
     transfers::<u8>("original: directed transfers of bytes");
 }
 
 #[test]
+#[cfg_attr(not(original), ignore = "the original is missing")]
 fn transfers_of_halves() {
     transfers::<u16>("original: directed transfers of halves");
 }
 
 #[test]
+#[cfg_attr(not(original), ignore = "the original is missing")]
 fn transfers_of_words() {
     transfers::<u32>("original: directed transfers of words");
 }

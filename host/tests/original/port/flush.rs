@@ -7,14 +7,11 @@ use crate::common::cases::{Cases, Tally};
 use crate::common::run::{Limits, MAX_BUDGET};
 use crate::common::transfer::port_flush;
 use crate::common::walk;
-use crate::original_is_here;
 
 /// Stops before every access, and limits. Every branch must be reached.
 #[test]
+#[cfg_attr(not(original), ignore = "the original is missing")]
 fn directed_flushes() {
-    if !original_is_here() {
-        return;
-    }
     let mut cases = Cases::new("original: directed flushes");
     let mut tally = Tally::new(FlushBranch::all());
     let mut run = |limits: &Limits| {

@@ -4,40 +4,31 @@ use super::{judged_flush, judged_transfer};
 use crate::common::random_runs::{flushes, transfers};
 use crate::common::transfer::Kind;
 use crate::common::Random;
-use crate::original_is_here;
 
 #[test]
+#[cfg_attr(not(original), ignore = "the original is missing")]
 fn exchanges_of_bytes() {
-    if !original_is_here() {
-        return;
-    }
     let mut random = Random::new("original: exchanges of bytes");
     transfers::<u8>(&mut random, Kind::Separate, 8_000, judged_transfer);
 }
 
 #[test]
+#[cfg_attr(not(original), ignore = "the original is missing")]
 fn exchanges_of_halves() {
-    if !original_is_here() {
-        return;
-    }
     let mut random = Random::new("original: exchanges of halves");
     transfers::<u16>(&mut random, Kind::Separate, 8_000, judged_transfer);
 }
 
 #[test]
+#[cfg_attr(not(original), ignore = "the original is missing")]
 fn exchanges_of_words() {
-    if !original_is_here() {
-        return;
-    }
     let mut random = Random::new("original: exchanges of words");
     transfers::<u32>(&mut random, Kind::Separate, 8_000, judged_transfer);
 }
 
 #[test]
+#[cfg_attr(not(original), ignore = "the original is missing")]
 fn transfers_of_one_buffer() {
-    if !original_is_here() {
-        return;
-    }
     let mut random = Random::new("original: transfers of one buffer");
     for kind in [Kind::InPlace, Kind::Write, Kind::Read] {
         transfers::<u8>(&mut random, kind, 4_000, judged_transfer);
@@ -47,10 +38,8 @@ fn transfers_of_one_buffer() {
 }
 
 #[test]
+#[cfg_attr(not(original), ignore = "the original is missing")]
 fn flushes_of_both() {
-    if !original_is_here() {
-        return;
-    }
     let mut random = Random::new("original: flushes");
     flushes(&mut random, 8_000, judged_flush);
 }

@@ -13,7 +13,6 @@ use crate::common::registers::{ERRORS, WRITE};
 use crate::common::run::{Left, Limits};
 use crate::common::transfer::{Kind, Transfer};
 use crate::common::Random;
-use crate::original_is_here;
 use lpspi_host::Driver;
 use std::fmt::LowerHex;
 use std::path::Path;
@@ -166,10 +165,8 @@ fn sample(random: &mut Random) -> Vec<Lines> {
 /// The lines of the files are what the original gives, and have every number that it
 /// gives.
 #[test]
+#[cfg_attr(not(original), ignore = "the original is missing")]
 fn the_sample() {
-    if !original_is_here() {
-        return;
-    }
     let mut random = Random::seeded("original: sample", SEED);
     let runs = sample(&mut random);
     for number in ["0 ", "1 ", "2 ", "3 ", "4 "] {

@@ -4,7 +4,6 @@ use super::branches::Branch;
 use super::{Case, Entry, CALLS};
 use crate::common::cases::{Cases, Tally};
 use crate::common::run::{Left, Limits, MAX_BUDGET};
-use crate::original_is_here;
 use crate::port::script::any_word;
 use crate::port::{stops, DRIVER, REFUSED};
 
@@ -171,10 +170,8 @@ fn limits(directed: &mut Directed) {
 
 /// All of the above. Every branch must be reached.
 #[test]
+#[cfg_attr(not(original), ignore = "the original is missing")]
 fn directed_calls() {
-    if !original_is_here() {
-        return;
-    }
     let mut directed = Directed {
         cases: Cases::new("original: directed calls"),
         tally: Tally::new(Branch::all()),

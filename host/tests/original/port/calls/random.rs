@@ -5,7 +5,6 @@ use super::{Case, CALLS};
 use crate::common::cases::Tally;
 use crate::common::run::{Limits, MAX_BUDGET};
 use crate::common::Random;
-use crate::original_is_here;
 use lpspi_host::Driver;
 
 impl Case {
@@ -65,10 +64,8 @@ impl Case {
 
 /// Every branch must be reached, but for the places of stops.
 #[test]
+#[cfg_attr(not(original), ignore = "the original is missing")]
 fn calls_of_both() {
-    if !original_is_here() {
-        return;
-    }
     let mut random = Random::new("original: calls");
     let mut tally = Tally::new(Branch::all());
     for _ in 0..60_000 {
