@@ -50,7 +50,13 @@ fn prepare(
     write_u32: &[u32],
     send: &mut [u32],
 )
-    ensures { λ _. ⌜ now (send .exit) ≡ laid (packWords (board .driver .order) (widthBits (board .width)) total (started (startOf board (slices (now («read_u8» .entry)) (now («read_u16» .entry)) (now («read_u32» .entry))) (slices (now («write_u8» .entry)) (now («write_u16» .entry)) (now («write_u32» .entry)))))) (now (send .entry)) ⌝ }
+    ensures { λ _. ⌜ now (send .exit)
+        ≡ laid
+        (packWords (board .driver .order) (widthBits (board .width)) total
+        (started
+        (startOf board (slices (now («read_u8» .entry)) (now («read_u16» .entry)) (now («read_u32» .entry)))
+        (slices (now («write_u8» .entry)) (now («write_u16» .entry)) (now («write_u32» .entry))))))
+        (now (send .entry)) ⌝ }
 {
     let driver = board.driver;
     let order = driver.bit_order();
@@ -63,7 +69,8 @@ fn prepare(
 }
 
 fn link(board: Board, total: usize) -> Link
-    ensures { λ r. ⌜ (r .exponent ≡ board .exponent) × (r .frame .width ≡ board .width) × (r .frame .total ≡ total) × (r .frame .inplace ≡ board .inplace) ⌝ }
+    ensures { λ r. ⌜ (r .exponent ≡ board .exponent) × (r .frame .width ≡ board .width) × (r .frame .total ≡ total)
+        × (r .frame .inplace ≡ board .inplace) ⌝ }
 {
     let width = board.width;
     Link {
@@ -99,8 +106,21 @@ fn exchange(
     gate_registers: &mut [u32; 30],
     antenna_registers: &mut [u32; 30],
 ) -> Stations
-    requires { ⌜ Ready gate antenna «gate_total» «antenna_total» fresh (slices (now («gate_read_u8»)) (now («gate_read_u16»)) (now («gate_read_u32»))) (slices (now («gate_write_u8»)) (now («gate_write_u16»)) (now («gate_write_u32»))) (slices (now («antenna_read_u8»)) (now («antenna_read_u16»)) (now («antenna_read_u32»))) (slices (now («antenna_write_u8»)) (now («antenna_write_u16»)) (now («antenna_write_u32»))) (now «gate_registers») (now «antenna_registers») ⌝ }
-    ensures { λ r. ⌜ Exchanged gate antenna (slices (now («gate_read_u8» .entry)) (now («gate_read_u16» .entry)) (now («gate_read_u32» .entry))) (slices (now («gate_write_u8» .entry)) (now («gate_write_u16» .entry)) (now («gate_write_u32» .entry))) (slices (now («antenna_read_u8» .entry)) (now («antenna_read_u16» .entry)) (now («antenna_read_u32» .entry))) (slices (now («antenna_write_u8» .entry)) (now («antenna_write_u16» .entry)) (now («antenna_write_u32» .entry))) (now (events .entry)) r (now («gate_registers» .exit)) (now («antenna_registers» .exit)) (slices (now («gate_read_u8» .exit)) (now («gate_read_u16» .exit)) (now («gate_read_u32» .exit))) (slices (now («antenna_read_u8» .exit)) (now («antenna_read_u16» .exit)) (now («antenna_read_u32» .exit))) ⌝ }
+    requires { ⌜ Ready gate antenna «gate_total» «antenna_total» fresh
+        (slices (now («gate_read_u8»)) (now («gate_read_u16»)) (now («gate_read_u32»)))
+        (slices (now («gate_write_u8»)) (now («gate_write_u16»)) (now («gate_write_u32»)))
+        (slices (now («antenna_read_u8»)) (now («antenna_read_u16»)) (now («antenna_read_u32»)))
+        (slices (now («antenna_write_u8»)) (now («antenna_write_u16»)) (now («antenna_write_u32»)))
+        (now «gate_registers») (now «antenna_registers») ⌝ }
+    ensures { λ r. ⌜ Exchanged gate antenna
+        (slices (now («gate_read_u8» .entry)) (now («gate_read_u16» .entry)) (now («gate_read_u32» .entry)))
+        (slices (now («gate_write_u8» .entry)) (now («gate_write_u16» .entry)) (now («gate_write_u32» .entry)))
+        (slices (now («antenna_read_u8» .entry)) (now («antenna_read_u16» .entry)) (now («antenna_read_u32» .entry)))
+        (slices (now («antenna_write_u8» .entry)) (now («antenna_write_u16» .entry))
+        (now («antenna_write_u32» .entry))) (now (events .entry)) r (now («gate_registers» .exit))
+        (now («antenna_registers» .exit))
+        (slices (now («gate_read_u8» .exit)) (now («gate_read_u16» .exit)) (now («gate_read_u32» .exit)))
+        (slices (now («antenna_read_u8» .exit)) (now («antenna_read_u16» .exit)) (now («antenna_read_u32» .exit))) ⌝ }
 {
     let mut gate_send = [0u32; Transaction::MAX_WORDS];
     let mut antenna_send = [0u32; Transaction::MAX_WORDS];
@@ -170,7 +190,8 @@ fn exchange(
 }
 
 fn left(number: u32, ends: Stations, gate: [u32; 30], antenna: [u32; 30]) -> Outcome
-    ensures { λ r. ⌜ (r .number ≡ number) × (r .gate .station ≡ ends .gate) × (r .gate .registers ≡ gate) × (r .antenna .station ≡ ends .antenna) × (r .antenna .registers ≡ antenna) ⌝ }
+    ensures { λ r. ⌜ (r .number ≡ number) × (r .gate .station ≡ ends .gate) × (r .gate .registers ≡ gate)
+        × (r .antenna .station ≡ ends .antenna) × (r .antenna .registers ≡ antenna) ⌝ }
 {
     let g = ends.gate;
     let a = ends.antenna;
@@ -205,8 +226,30 @@ pub fn trial(
     antenna_write_u32: &[u32],
     events: &[u8],
 ) -> Outcome
-    ensures same { λ r. ⌜ trialLeft r (slices (now («gate_read_u8» .exit)) (now («gate_read_u16» .exit)) (now («gate_read_u32» .exit))) (slices (now («antenna_read_u8» .exit)) (now («antenna_read_u16» .exit)) (now («antenna_read_u32» .exit))) ≡ trialOf gate antenna (slices (now («gate_read_u8» .entry)) (now («gate_read_u16» .entry)) (now («gate_read_u32» .entry))) (slices (now («gate_write_u8» .entry)) (now («gate_write_u16» .entry)) (now («gate_write_u32» .entry))) (slices (now («antenna_read_u8» .entry)) (now («antenna_read_u16» .entry)) (now («antenna_read_u32» .entry))) (slices (now («antenna_write_u8» .entry)) (now («antenna_write_u16» .entry)) (now («antenna_write_u32» .entry))) (now (events .entry)) ⌝ }
-    ensures agreement { λ r. ⌜ (r .number ≡ 0 → Agreement (startOf gate (slices (now («gate_read_u8» .entry)) (now («gate_read_u16» .entry)) (now («gate_read_u32» .entry))) (slices (now («gate_write_u8» .entry)) (now («gate_write_u16» .entry)) (now («gate_write_u32» .entry)))) (startOf antenna (slices (now («antenna_read_u8» .entry)) (now («antenna_read_u16» .entry)) (now («antenna_read_u32» .entry))) (slices (now («antenna_write_u8» .entry)) (now («antenna_write_u16» .entry)) (now («antenna_write_u32» .entry)))) (eventsOf (now (events .entry))) (stateOf (r .gate)) (stateOf (r .antenna)) (pick (gate .width) (slices (now («gate_read_u8» .exit)) (now («gate_read_u16» .exit)) (now («gate_read_u32» .exit)))) (pick (antenna .width) (slices (now («antenna_read_u8» .exit)) (now («antenna_read_u16» .exit)) (now («antenna_read_u32» .exit))))) ⌝ }
+    ensures same { λ r. ⌜ trialLeft r
+        (slices (now («gate_read_u8» .exit)) (now («gate_read_u16» .exit)) (now («gate_read_u32» .exit)))
+        (slices (now («antenna_read_u8» .exit)) (now («antenna_read_u16» .exit)) (now («antenna_read_u32» .exit)))
+        ≡ trialOf gate antenna
+        (slices (now («gate_read_u8» .entry)) (now («gate_read_u16» .entry)) (now («gate_read_u32» .entry)))
+        (slices (now («gate_write_u8» .entry)) (now («gate_write_u16» .entry)) (now («gate_write_u32» .entry)))
+        (slices (now («antenna_read_u8» .entry)) (now («antenna_read_u16» .entry)) (now («antenna_read_u32» .entry)))
+        (slices (now («antenna_write_u8» .entry)) (now («antenna_write_u16» .entry))
+        (now («antenna_write_u32» .entry))) (now (events .entry)) ⌝ }
+    ensures agreement { λ r. ⌜ (r .number ≡ 0
+        → Agreement
+        (startOf gate
+        (slices (now («gate_read_u8» .entry)) (now («gate_read_u16» .entry)) (now («gate_read_u32» .entry)))
+        (slices (now («gate_write_u8» .entry)) (now («gate_write_u16» .entry)) (now («gate_write_u32» .entry))))
+        (startOf antenna
+        (slices (now («antenna_read_u8» .entry)) (now («antenna_read_u16» .entry)) (now («antenna_read_u32» .entry)))
+        (slices (now («antenna_write_u8» .entry)) (now («antenna_write_u16» .entry))
+        (now («antenna_write_u32» .entry)))) (eventsOf (now (events .entry))) (stateOf (r .gate))
+        (stateOf (r .antenna))
+        (pick (gate .width)
+        (slices (now («gate_read_u8» .exit)) (now («gate_read_u16» .exit)) (now («gate_read_u32» .exit))))
+        (pick (antenna .width)
+        (slices (now («antenna_read_u8» .exit)) (now («antenna_read_u16» .exit))
+        (now («antenna_read_u32» .exit))))) ⌝ }
 {
     let gate_driver = gate.driver;
     let antenna_driver = antenna.driver;

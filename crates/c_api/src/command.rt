@@ -84,7 +84,11 @@ pub extern "C" fn lpspi_command(
     pcs: u32,
     word: &mut u32,
 ) -> u32
-    ensures { λ r. ⌜ answered r (now (word .exit)) ≡ kept (commanded (settingsWord (settingsFrom «byte_swap» lsb «receive_mask» «transmit_mask» continuous continuing mode pcs)) «frame_size») (now (word .entry)) ⌝ }
+    ensures { λ r. ⌜ answered r (now (word .exit))
+        ≡ kept
+        (commanded
+        (settingsWord (settingsFrom «byte_swap» lsb «receive_mask» «transmit_mask» continuous continuing mode pcs))
+        «frame_size») (now (word .entry)) ⌝ }
 {
     let TransactionResult::Ok(command) = command_of(frame_size) else {
         return 1;

@@ -1,8 +1,9 @@
 // Two boards over the bus: the number of a trial, with both read buffers and both ends' states where they go.
 //
-// `state` gets 136 words, 68 for each end, the gate's first: the numbers of its transfer and its flush, or 255; T and R; how many words are to be sent
-// and to be read; 16 places for each; the 30 registers. What has no room is dropped. The answer is 0, or 9 for boards that make no pair. At 9 `state`
-// and both read buffers are as found, so a host looks at the number first: zeros that it lent as `state` would read as Ok twice at both ends.
+// `state` gets 136 words, 68 for each end, the gate's first: the numbers of its transfer and its flush, or 255; T and R; how many words
+// are to be sent and to be read; 16 places for each; the 30 registers. What has no room is dropped. The answer is 0, or 9 for boards
+// that make no pair. At 9 `state` and both read buffers are as found, so a host looks at the number first: zeros that it lent as
+// `state` would read as Ok twice at both ends.
 ghost use Prim.Native.Nat.{_<_, min};
 ghost use mathlib.Core.List.{_++_};
 ghost use mathlib.Core.Path.{_≡_};
@@ -93,7 +94,8 @@ fn pair_word(gate: EndState, antenna: EndState, i: usize) -> u32
 
 // What has no room is dropped.
 fn show(gate: EndState, antenna: EndState, state: &mut [u32])
-    ensures { λ _. ⌜ now (state .exit) ≡ laid (stateWords (stateOf gate) ++ stateWords (stateOf antenna)) (now (state .entry)) ⌝ }
+    ensures { λ _. ⌜ now (state .exit)
+        ≡ laid (stateWords (stateOf gate) ++ stateWords (stateOf antenna)) (now (state .entry)) ⌝ }
 {
     let n = least(136, state.len());
     for i in 0..n {
@@ -103,7 +105,10 @@ fn show(gate: EndState, antenna: EndState, state: &mut [u32])
 
 // The number of a trial. At 9 `state` is as found.
 fn report(left: Outcome, state: &mut [u32]) -> u32
-    ensures { λ r. ⌜ (r ≡ left .number) × (now (state .exit) ≡ stateLeft (left .number) (stateOf (left .gate)) (stateOf (left .antenna)) (now (state .entry))) ⌝ }
+    ensures { λ r. ⌜ (r ≡ left .number)
+        ×
+        (now (state .exit)
+        ≡ stateLeft (left .number) (stateOf (left .gate)) (stateOf (left .antenna)) (now (state .entry))) ⌝ }
 {
     let number = left.number;
     if number == 9 {
@@ -143,7 +148,10 @@ pub extern "C" fn lpspi_trial_u8(
     events: &[u8],
     state: &mut [u32],
 ) -> u32
-    ensures { λ r. ⌜ hostTrial r (now («gate_read» .exit)) (now («antenna_read» .exit)) (now (state .exit)) ≡ trialBy U8 «gate_driver» «antenna_driver» inplace «gate_exponent» «antenna_exponent» (now («gate_read» .entry)) (now («gate_write» .entry)) (now («antenna_read» .entry)) (now («antenna_write» .entry)) (now (events .entry)) (now (state .entry)) ⌝ }
+    ensures { λ r. ⌜ hostTrial r (now («gate_read» .exit)) (now («antenna_read» .exit)) (now (state .exit))
+        ≡ trialBy U8 «gate_driver» «antenna_driver» inplace «gate_exponent» «antenna_exponent»
+        (now («gate_read» .entry)) (now («gate_write» .entry)) (now («antenna_read» .entry))
+        (now («antenna_write» .entry)) (now (events .entry)) (now (state .entry)) ⌝ }
 {
     let gate = board(Width::U8, gate_driver, inplace, gate_exponent);
     let antenna = board(Width::U8, antenna_driver, inplace / 2, antenna_exponent);
@@ -188,7 +196,10 @@ pub extern "C" fn lpspi_trial_u16(
     events: &[u8],
     state: &mut [u32],
 ) -> u32
-    ensures { λ r. ⌜ hostTrial r (now («gate_read» .exit)) (now («antenna_read» .exit)) (now (state .exit)) ≡ trialBy U16 «gate_driver» «antenna_driver» inplace «gate_exponent» «antenna_exponent» (now («gate_read» .entry)) (now («gate_write» .entry)) (now («antenna_read» .entry)) (now («antenna_write» .entry)) (now (events .entry)) (now (state .entry)) ⌝ }
+    ensures { λ r. ⌜ hostTrial r (now («gate_read» .exit)) (now («antenna_read» .exit)) (now (state .exit))
+        ≡ trialBy U16 «gate_driver» «antenna_driver» inplace «gate_exponent» «antenna_exponent»
+        (now («gate_read» .entry)) (now («gate_write» .entry)) (now («antenna_read» .entry))
+        (now («antenna_write» .entry)) (now (events .entry)) (now (state .entry)) ⌝ }
 {
     let gate = board(Width::U16, gate_driver, inplace, gate_exponent);
     let antenna = board(Width::U16, antenna_driver, inplace / 2, antenna_exponent);
@@ -233,7 +244,10 @@ pub extern "C" fn lpspi_trial_u32(
     events: &[u8],
     state: &mut [u32],
 ) -> u32
-    ensures { λ r. ⌜ hostTrial r (now («gate_read» .exit)) (now («antenna_read» .exit)) (now (state .exit)) ≡ trialBy U32 «gate_driver» «antenna_driver» inplace «gate_exponent» «antenna_exponent» (now («gate_read» .entry)) (now («gate_write» .entry)) (now («antenna_read» .entry)) (now («antenna_write» .entry)) (now (events .entry)) (now (state .entry)) ⌝ }
+    ensures { λ r. ⌜ hostTrial r (now («gate_read» .exit)) (now («antenna_read» .exit)) (now (state .exit))
+        ≡ trialBy U32 «gate_driver» «antenna_driver» inplace «gate_exponent» «antenna_exponent»
+        (now («gate_read» .entry)) (now («gate_write» .entry)) (now («antenna_read» .entry))
+        (now («antenna_write» .entry)) (now (events .entry)) (now (state .entry)) ⌝ }
 {
     let gate = board(Width::U32, gate_driver, inplace, gate_exponent);
     let antenna = board(Width::U32, antenna_driver, inplace / 2, antenna_exponent);

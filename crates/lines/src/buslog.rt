@@ -53,8 +53,12 @@ fn run(
     log: &mut [u32],
     out: &mut [u8],
 ) -> usize
-    requires { ⌜ (116626 ≤ length (now out)) × Sound (record { header = header; write = now write; read = reads; script = now script }) ⌝ }
-    ensures { λ r. ⌜ Printed (listing (header .width) (exchangeSeparate (header .width) (withOrder (header .order) startDriver) (zeros reads) (now (write .entry)) (header .budget) (now (script .entry)) (now (log .entry)))) (now (out .entry)) (now (out .exit)) r ⌝ }
+    requires { ⌜ (116626 ≤ length (now out))
+        × Sound (record { header = header; write = now write; read = reads; script = now script }) ⌝ }
+    ensures { λ r. ⌜ Printed
+        (listing (header .width)
+        (exchangeSeparate (header .width) (withOrder (header .order) startDriver) (zeros reads) (now (write .entry))
+        (header .budget) (now (script .entry)) (now (log .entry)))) (now (out .entry)) (now (out .exit)) r ⌝ }
 {
     let order = header.order;
     let budget = header.budget;
@@ -70,8 +74,13 @@ fn run(
 
 // With room for the log.
 fn list(header: Header, reads: usize, write: &[u32], script: &[u32], out: &mut [u8]) -> usize
-    requires { ⌜ (116626 ≤ length (now out)) × Sound (record { header = header; write = now write; read = reads; script = now script }) ⌝ }
-    ensures { λ r. ⌜ Printed (listing (header .width) (exchanged (record { header = header; write = now (write .entry); read = reads; script = now (script .entry) }))) (now (out .entry)) (now (out .exit)) r ⌝ }
+    requires { ⌜ (116626 ≤ length (now out))
+        × Sound (record { header = header; write = now write; read = reads; script = now script }) ⌝ }
+    ensures { λ r. ⌜ Printed
+        (listing (header .width)
+        (exchanged
+        (record { header = header; write = now (write .entry); read = reads; script = now (script .entry) })))
+        (now (out .entry)) (now (out .exit)) r ⌝ }
 {
     let mut log = [0u32; 16_000];
     let places = 2 * least(header.budget, 8_000);

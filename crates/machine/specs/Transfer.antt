@@ -1,5 +1,5 @@
--- The machine of a transfer (document 01, Accesses and transfers): transmit poll until ready; TCR; then words. The sending side goes until it
--- must wait or ends, then the receiving side, over again; an error in one ends both.
+-- The machine of a transfer (document 01, Accesses and transfers): transmit poll until ready; TCR; then words. The sending side goes
+-- until it must wait or ends, then the receiving side, over again; an error in one ends both.
 -- Assumes nothing.
 use Prim.Native.Nat.{ℕ, _+_}
 use mathlib.Core.Bool.{cond}

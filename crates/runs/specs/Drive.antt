@@ -1,5 +1,5 @@
--- The run of a transfer over FIFO words, the border between this crate and those above it: what `run_words`, `word_in` and `keep` promise. No
--- contract of a call of document 01 cites it: there the words are elements (transfers `Transfers`).
+-- The run of a transfer over FIFO words, the border between this crate and those above it: what `run_words`, `word_in` and `keep`
+-- promise. No contract of a call of document 01 cites it: there the words are elements (transfers `Transfers`).
 -- Assumes nothing.
 use Prim.Native.Nat.{ℕ, _+_, min}
 use mathlib.Core.Bool.{cond, _&&_}
@@ -79,7 +79,10 @@ drivenLeft r log words = record { driven = r; number = numberOf (r .ending); log
 unfoldable pub drivenBy : List ℕ → List ℕ → State Transfer → DrivenLeft
 drivenBy old olds s =
     drivenLeft
-    (record { ending = endingOf (dueAccess (s .machine)); spot = record { made = length (s .log); used = s .used; received = stored (s .received) olds } })
+    (record {
+      ending = endingOf (dueAccess (s .machine));
+      spot = record { made = length (s .log); used = s .used; received = stored (s .received) olds };
+    })
     (logOver old (s .log))
     (laid (s .received) olds)
 

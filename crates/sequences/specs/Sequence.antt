@@ -1,5 +1,5 @@
--- A call as a sequence of moves, each one register access, and what a move does. `modify_reg!` is `modify`: a read (Look), then a write with
--- only the named fields changed (Modify). `write_reg!` of fields is Set, of a word Write.
+-- A call as a sequence of moves, each one register access, and what a move does. `modify_reg!` is `modify`: a read (Look), then a write
+-- with only the named fields changed (Modify). `write_reg!` of fields is Set, of a word Write.
 -- Assumes nothing.
 use Prim.Native.Nat.{ℕ, _+_, _-_, _/_, _^_, min}
 use mathlib.Core.Bool.{true, false, cond, not}

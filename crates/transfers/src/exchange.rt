@@ -27,7 +27,8 @@ pub fn exchange_u8(
     script: &[u32],
     log: &mut [u32],
 ) -> RunResult
-    ensures { λ r. ⌜ transferLeft r (now (log .exit)) (now (buf .exit)) ≡ exchange 8 driver (now (buf .entry)) budget (now (script .entry)) (now (log .entry)) ⌝ }
+    ensures { λ r. ⌜ transferLeft r (now (log .exit)) (now (buf .exit))
+        ≡ exchange 8 driver (now (buf .entry)) budget (now (script .entry)) (now (log .entry)) ⌝ }
 {
     if limits(budget, log) {
         return RunResult::unmoved(driver, Ending::Limits);
@@ -77,7 +78,8 @@ pub fn exchange_u16(
     script: &[u32],
     log: &mut [u32],
 ) -> RunResult
-    ensures { λ r. ⌜ transferLeft r (now (log .exit)) (now (buf .exit)) ≡ exchange 16 driver (now (buf .entry)) budget (now (script .entry)) (now (log .entry)) ⌝ }
+    ensures { λ r. ⌜ transferLeft r (now (log .exit)) (now (buf .exit))
+        ≡ exchange 16 driver (now (buf .entry)) budget (now (script .entry)) (now (log .entry)) ⌝ }
 {
     if limits(budget, log) {
         return RunResult::unmoved(driver, Ending::Limits);
@@ -127,7 +129,8 @@ pub fn exchange_u32(
     script: &[u32],
     log: &mut [u32],
 ) -> RunResult
-    ensures { λ r. ⌜ transferLeft r (now (log .exit)) (now (buf .exit)) ≡ exchange 32 driver (now (buf .entry)) budget (now (script .entry)) (now (log .entry)) ⌝ }
+    ensures { λ r. ⌜ transferLeft r (now (log .exit)) (now (buf .exit))
+        ≡ exchange 32 driver (now (buf .entry)) budget (now (script .entry)) (now (log .entry)) ⌝ }
 {
     if limits(budget, log) {
         return RunResult::unmoved(driver, Ending::Limits);

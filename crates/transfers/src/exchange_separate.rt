@@ -31,7 +31,9 @@ pub fn exchange_separate_u8(
     script: &[u32],
     log: &mut [u32],
 ) -> RunResult
-    ensures { λ r. ⌜ transferLeft r (now (log .exit)) (now (read .exit)) ≡ exchangeSeparate 8 driver (now (read .entry)) (now (write .entry)) budget (now (script .entry)) (now (log .entry)) ⌝ }
+    ensures { λ r. ⌜ transferLeft r (now (log .exit)) (now (read .exit))
+        ≡ exchangeSeparate 8 driver (now (read .entry)) (now (write .entry)) budget (now (script .entry))
+        (now (log .entry)) ⌝ }
 {
     if limits(budget, log) {
         return RunResult::unmoved(driver, Ending::Limits);
@@ -83,7 +85,9 @@ pub fn exchange_separate_u16(
     script: &[u32],
     log: &mut [u32],
 ) -> RunResult
-    ensures { λ r. ⌜ transferLeft r (now (log .exit)) (now (read .exit)) ≡ exchangeSeparate 16 driver (now (read .entry)) (now (write .entry)) budget (now (script .entry)) (now (log .entry)) ⌝ }
+    ensures { λ r. ⌜ transferLeft r (now (log .exit)) (now (read .exit))
+        ≡ exchangeSeparate 16 driver (now (read .entry)) (now (write .entry)) budget (now (script .entry))
+        (now (log .entry)) ⌝ }
 {
     if limits(budget, log) {
         return RunResult::unmoved(driver, Ending::Limits);
@@ -135,7 +139,9 @@ pub fn exchange_separate_u32(
     script: &[u32],
     log: &mut [u32],
 ) -> RunResult
-    ensures { λ r. ⌜ transferLeft r (now (log .exit)) (now (read .exit)) ≡ exchangeSeparate 32 driver (now (read .entry)) (now (write .entry)) budget (now (script .entry)) (now (log .entry)) ⌝ }
+    ensures { λ r. ⌜ transferLeft r (now (log .exit)) (now (read .exit))
+        ≡ exchangeSeparate 32 driver (now (read .entry)) (now (write .entry)) budget (now (script .entry))
+        (now (log .entry)) ⌝ }
 {
     if limits(budget, log) {
         return RunResult::unmoved(driver, Ending::Limits);

@@ -24,7 +24,8 @@ pub fn read_no_write_u8(
     script: &[u32],
     log: &mut [u32],
 ) -> RunResult
-    ensures { λ r. ⌜ transferLeft r (now (log .exit)) (now (buf .exit)) ≡ readNoWrite 8 driver (now (buf .entry)) budget (now (script .entry)) (now (log .entry)) ⌝ }
+    ensures { λ r. ⌜ transferLeft r (now (log .exit)) (now (buf .exit))
+        ≡ readNoWrite 8 driver (now (buf .entry)) budget (now (script .entry)) (now (log .entry)) ⌝ }
 {
     if limits(budget, log) {
         return RunResult::unmoved(driver, Ending::Limits);
@@ -75,7 +76,8 @@ pub fn read_no_write_u16(
     script: &[u32],
     log: &mut [u32],
 ) -> RunResult
-    ensures { λ r. ⌜ transferLeft r (now (log .exit)) (now (buf .exit)) ≡ readNoWrite 16 driver (now (buf .entry)) budget (now (script .entry)) (now (log .entry)) ⌝ }
+    ensures { λ r. ⌜ transferLeft r (now (log .exit)) (now (buf .exit))
+        ≡ readNoWrite 16 driver (now (buf .entry)) budget (now (script .entry)) (now (log .entry)) ⌝ }
 {
     if limits(budget, log) {
         return RunResult::unmoved(driver, Ending::Limits);
@@ -126,7 +128,8 @@ pub fn read_no_write_u32(
     script: &[u32],
     log: &mut [u32],
 ) -> RunResult
-    ensures { λ r. ⌜ transferLeft r (now (log .exit)) (now (buf .exit)) ≡ readNoWrite 32 driver (now (buf .entry)) budget (now (script .entry)) (now (log .entry)) ⌝ }
+    ensures { λ r. ⌜ transferLeft r (now (log .exit)) (now (buf .exit))
+        ≡ readNoWrite 32 driver (now (buf .entry)) budget (now (script .entry)) (now (log .entry)) ⌝ }
 {
     if limits(budget, log) {
         return RunResult::unmoved(driver, Ending::Limits);

@@ -25,7 +25,8 @@ pub fn write_no_read_u8(
     script: &[u32],
     log: &mut [u32],
 ) -> RunResult
-    ensures { λ r. ⌜ transferLeft r (now (log .exit)) [] ≡ writeNoRead 8 driver (now (buf .entry)) budget (now (script .entry)) (now (log .entry)) ⌝ }
+    ensures { λ r. ⌜ transferLeft r (now (log .exit)) []
+        ≡ writeNoRead 8 driver (now (buf .entry)) budget (now (script .entry)) (now (log .entry)) ⌝ }
 {
     if limits(budget, log) {
         return RunResult::unmoved(driver, Ending::Limits);
@@ -74,7 +75,8 @@ pub fn write_no_read_u16(
     script: &[u32],
     log: &mut [u32],
 ) -> RunResult
-    ensures { λ r. ⌜ transferLeft r (now (log .exit)) [] ≡ writeNoRead 16 driver (now (buf .entry)) budget (now (script .entry)) (now (log .entry)) ⌝ }
+    ensures { λ r. ⌜ transferLeft r (now (log .exit)) []
+        ≡ writeNoRead 16 driver (now (buf .entry)) budget (now (script .entry)) (now (log .entry)) ⌝ }
 {
     if limits(budget, log) {
         return RunResult::unmoved(driver, Ending::Limits);
@@ -123,7 +125,8 @@ pub fn write_no_read_u32(
     script: &[u32],
     log: &mut [u32],
 ) -> RunResult
-    ensures { λ r. ⌜ transferLeft r (now (log .exit)) [] ≡ writeNoRead 32 driver (now (buf .entry)) budget (now (script .entry)) (now (log .entry)) ⌝ }
+    ensures { λ r. ⌜ transferLeft r (now (log .exit)) []
+        ≡ writeNoRead 32 driver (now (buf .entry)) budget (now (script .entry)) (now (log .entry)) ⌝ }
 {
     if limits(budget, log) {
         return RunResult::unmoved(driver, Ending::Limits);
