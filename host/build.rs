@@ -48,7 +48,7 @@ fn find(package: &Path) {
     if place::source(&package.join("original")).is_file() {
         println!("cargo::rustc-cfg=original");
     }
-    for name in ["buslog", "trial"] {
+    for name in ["buslog", "lpspi", "trial"] {
         println!("cargo::rustc-check-cfg=cfg({name})");
         let program = package.join("../target/bin").join(name);
         println!("cargo::rerun-if-changed={}", program.display());

@@ -1,20 +1,21 @@
 //! A sample of the original's answers, in the repository, that the proved program
-//! `replay` gives again.
+//! `lpspi` gives again.
 //!
-//! A line of `crates/replay/stdin` has the inputs of a run, and the same line of
-//! `crates/replay/stdout` what the original leaves. Both are made here, from a fixed
-//! seed and by the original alone: the port has no part in them. The test holds the
-//! files against the original; with `LPSPI_SAMPLE=write` it writes them.
+//! Behind the line `MARK` of `crates/lpspi/stdin` each line has the inputs of a run, as
+//! docs/CALLS.md has them, and `crates/lpspi/stdout` what the original leaves. Both are
+//! made here, from a fixed seed and by the original alone: the port has no part in
+//! them. The test holds the files against the original; with `LPSPI_SAMPLE=write` it
+//! writes them.
 
 use super::calls::{Case, CALLS};
 use super::{judged_flush, judged_transfer, Element};
 use crate::common::random_runs::Mood;
-use crate::common::registers::{ERRORS, WRITE};
-use crate::common::run::{Left, Limits};
+use crate::common::registers::ERRORS;
+use crate::common::run::{listing, Left, Limits};
 use crate::common::transfer::{Kind, Transfer};
 use crate::common::Random;
 use lpspi_host::Driver;
-use std::fmt::LowerHex;
+use std::fmt::UpperHex;
 use std::path::Path;
 use std::{env, fs};
 
@@ -28,50 +29,69 @@ const CALL_RUNS: usize = 8;
 /// More accesses than a run of the sample makes by itself.
 const BUDGET: usize = 500;
 
-/// The inputs of a run and what the original leaves, in lines.
+/// Behind this line of both files stand the runs, up to the end.
+const MARK: &str = "# runs of the original, lpspi.rs itself";
+
+/// A run as the program takes it, and what the original leaves, as the program prints
+/// it.
 type Lines = (String, String);
 
-/// A length and so many hexadecimal numbers.
-fn list<N: LowerHex>(numbers: &[N]) -> String {
-    let numbers = numbers.iter().map(|number| format!(" {number:x}"));
-    format!("{:x}", numbers.len()) + &numbers.collect::<String>()
+/// A list's name and its numbers, of that many hexadecimal digits or more; nothing
+/// where there are none.
+fn list<N: UpperHex>(name: &str, numbers: &[N], digits: usize) -> String {
+    if numbers.is_empty() {
+        return String::new();
+    }
+    let numbers = numbers.iter().map(|number| format!(" {number:0digits$X}"));
+    format!("{name}{}", numbers.collect::<String>())
 }
 
-/// The lines of a run. The function is the exported one, with its kind and its
-/// parameters.
-fn lines<W: LowerHex>(
-    function: [u32; 4],
+/// A driver value, as lines have it.
+fn driver_text(driver: Driver) -> String {
+    let order = if driver.bit_order.is_lsb() { 'L' } else { 'M' };
+    let Driver {
+        mode,
+        pcs,
+        dbt,
+        sckdiv,
+        ..
+    } = driver;
+    format!(" driver {order} {mode} {pcs} 0x{dbt:02X} 0x{sckdiv:02X}")
+}
+
+/// The lines of a run: its call with the arguments, and what the call's own value is
+/// printed as.
+fn lines<W: UpperHex>(
+    call: &str,
     driver: Driver,
     (read, write): (&[W], &[W]),
     limits: &Limits,
     left: &Left<W>,
+    value: &str,
 ) -> Lines {
-    let [function, kind, a, b] = function;
+    let digits = 2 * size_of::<W>();
     let inputs = format!(
-        "{function:x} {kind:x} {a:x} {b:x} {:x} {:x} {} {} {}",
-        driver.number(),
+        "{call}{} budget {}{}{}{}",
+        driver_text(driver),
         limits.budget,
-        list(read),
-        list(write),
-        list(&limits.script)
+        list(" read", read, digits),
+        list(" write", write, digits),
+        list(" script", &limits.script, 1)
     );
     let Left {
         number,
         accesses,
         answers,
-        value,
         driver,
         ..
     } = left;
-    let mut answer = format!("{number} {accesses} {answers} {value:x} {driver:06x}");
-    for element in &left.buffer {
-        answer += &format!(" {element:0width$x}", width = 2 * size_of::<W>());
-    }
-    for (register, value) in left.made() {
-        let kind = if register < WRITE { 'R' } else { 'W' };
-        answer += &format!(" {kind}{:02x}:{value:08x}", register % WRITE);
-    }
-    (inputs, answer)
+    let mut answer = listing(&left.log[..2 * accesses]);
+    let read = list("read", &left.buffer, digits);
+    answer.extend([read, value.to_owned()]);
+    answer.retain(|line| !line.is_empty());
+    let driver = driver_text(Driver::of_number(*driver));
+    answer.push(format!("{number} {accesses} {answers}{driver}"));
+    (inputs, answer.join("\n"))
 }
 
 fn random_driver(random: &mut Random) -> Driver {
@@ -105,7 +125,7 @@ fn random_limits<W>(
 }
 
 /// A transfer of up to three words; the first of a kind is too long.
-fn transfer<W: Element + LowerHex>(random: &mut Random, kind: Kind, first: bool) -> Lines {
+fn transfer<W: Element + UpperHex>(random: &mut Random, kind: Kind, first: bool) -> Lines {
     let per_word = Transfer::<W>::PER_WORD;
     let mut length = || random.below(3 * per_word + 1);
     let lengths = match first {
@@ -116,17 +136,22 @@ fn transfer<W: Element + LowerHex>(random: &mut Random, kind: Kind, first: bool)
     let transfer = Transfer::<W>::new(kind, driver, lengths, || random.word());
     let limits = random_limits(random, 60, |limits| judged_transfer(&transfer, limits));
     let left = judged_transfer(&transfer, &limits);
-    let width = size_of::<W>().ilog2();
-    let function = [width, kind as u32, 0, 0];
+    let name = match kind {
+        Kind::Separate => "exchange_separate",
+        Kind::InPlace => "exchange",
+        Kind::Write => "write_no_read",
+        Kind::Read => "read_no_write",
+    };
+    let call = format!("{name}_u{}", 8 * size_of::<W>());
     let buffers = (&transfer.read[..], &transfer.write[..]);
-    lines(function, driver, buffers, &limits, &left)
+    lines(&call, driver, buffers, &limits, &left, "")
 }
 
 fn flush(random: &mut Random) -> Lines {
     let driver = random_driver(random);
     let limits = random_limits(random, 24, |limits| judged_flush(driver, limits));
     let left = judged_flush(driver, &limits);
-    lines([3, 0, 0, 0], driver, (&[], &[]), &limits, &left)
+    lines::<u8>("flush", driver, (&[], &[]), &limits, &left, "")
 }
 
 /// Some runs of every other call, of those that the original answers by itself: the
@@ -140,9 +165,16 @@ fn calls(random: &mut Random) -> Vec<Lines> {
         let left = case.judged();
         if *wanted > 0 && left.number <= 4 {
             *wanted -= 1;
+            let (call, value) = (case.text(), case.value_text(left.value));
             let nothing = (&[][..], &[][..]);
-            let run = lines(case.function(), case.driver, nothing, &case.limits, &left);
-            runs.push(run);
+            runs.push(lines(
+                &call,
+                case.driver,
+                nothing,
+                &case.limits,
+                &left,
+                &value,
+            ));
         }
     }
     runs
@@ -162,6 +194,28 @@ fn sample(random: &mut Random) -> Vec<Lines> {
     runs
 }
 
+/// What stands behind the mark of a file; and what stands before it, with the mark.
+fn split(file: &str) -> (&str, &str) {
+    let mark = format!("{MARK}\n");
+    let at = file.find(&mark).expect("the mark is there") + mark.len();
+    file.split_at(at)
+}
+
+/// What the program prints, run by run: the line with the driver value is the last.
+fn answers(printed: &str) -> Vec<String> {
+    let mut runs = vec![];
+    let mut run = vec![];
+    for line in printed.lines() {
+        run.push(line);
+        if line.contains(" driver ") {
+            runs.push(run.join("\n"));
+            run.clear();
+        }
+    }
+    assert!(run.is_empty(), "the last run is not whole");
+    runs
+}
+
 /// The lines of the files are what the original gives, and have every number that it
 /// gives.
 #[test]
@@ -169,26 +223,35 @@ fn sample(random: &mut Random) -> Vec<Lines> {
 fn the_sample() {
     let mut random = Random::seeded("original: sample", SEED);
     let runs = sample(&mut random);
-    for number in ["0 ", "1 ", "2 ", "3 ", "4 "] {
-        let given = runs.iter().filter(|run| run.1.starts_with(number)).count();
+    for number in 0..=4 {
+        let result = format!("{number} ");
+        let given = |run: &&Lines| run.1.lines().last().is_some_and(|l| l.starts_with(&result));
+        let given = runs.iter().filter(given).count();
         assert!(given >= 10, "{given} of {number}");
     }
 
-    let folder = Path::new(env!("CARGO_MANIFEST_DIR")).join("../crates/replay");
-    let (stdin, stdout) = (folder.join("stdin"), folder.join("stdout"));
+    let folder = Path::new(env!("CARGO_MANIFEST_DIR")).join("../crates/lpspi");
+    let paths = [folder.join("stdin"), folder.join("stdout")];
+    let files = || {
+        paths
+            .clone()
+            .map(|path| fs::read_to_string(path).expect("a file"))
+    };
     if env::var("LPSPI_SAMPLE").is_ok_and(|mode| mode == "write") {
         let (inputs, answers): (Vec<_>, Vec<_>) = runs.iter().cloned().unzip();
-        let inputs = format!("{:x}\n{}\n", runs.len(), inputs.join("\n"));
-        fs::write(&stdin, inputs).expect("stdin is written");
-        fs::write(&stdout, answers.join("\n") + "\n").expect("stdout is written");
+        for ((path, file), runs) in paths.iter().zip(files()).zip([inputs, answers]) {
+            let text = split(&file).0.to_owned() + &runs.join("\n") + "\n";
+            fs::write(path, text).expect("a file is written");
+        }
     }
-    let [stdin, stdout] = [stdin, stdout].map(|file| fs::read_to_string(file).expect("a file"));
-    let count = format!("{:x}", runs.len());
-    assert_eq!(stdin.lines().next(), Some(&count[..]));
-    let kept: Vec<_> = stdin.lines().skip(1).zip(stdout.lines()).collect();
-    assert_eq!(kept.len(), runs.len());
-    for (kept, run) in kept.iter().zip(&runs) {
+    let [stdin, stdout] = files();
+    let inputs: Vec<_> = split(&stdin).1.lines().collect();
+    let answers = answers(split(&stdout).1);
+    assert_eq!((inputs.len(), answers.len()), (runs.len(), runs.len()));
+    for ((input, answer), run) in inputs.iter().zip(&answers).zip(&runs) {
         let made = || (&run.0[..], &run.1[..]);
-        random.cases.compare(&"sample", kept, made);
+        random
+            .cases
+            .compare(&"sample", &(*input, &answer[..]), made);
     }
 }

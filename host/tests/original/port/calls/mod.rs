@@ -149,15 +149,50 @@ impl Case {
         place.expect("a call of the list")
     }
 
-    /// The exported function, by its number in the sample, with its kind and its
-    /// parameters.
-    pub(super) fn function(&self) -> [u32; 4] {
-        [
-            4 + self.entry.function as u32,
-            self.entry.kind,
-            self.a,
-            self.b,
-        ]
+    /// The call with its arguments, as the program `lpspi` takes them.
+    pub(super) fn text(&self) -> String {
+        let Self { a, b, driver, .. } = *self;
+        let name = self.entry.name;
+        match self.call() {
+            Call::ClearStatus(_) | Call::EnqueueData(_) => format!("{name} 0x{a:X}"),
+            Call::SetEnable(_)
+            | Call::ClearFifo(_)
+            | Call::Watermark(_)
+            | Call::SetSamplePoint { .. }
+            | Call::SetPeripheralEnable(_) => format!("{name} {}", a % 2),
+            Call::SetWatermark(..) => format!("{name} {} {}", a % 2, b % 0x100),
+            Call::SetChipSelectPolarity { .. } => format!("{name} {} {}", a % 4, b % 2),
+            Call::SetClockHz { .. } => format!("{name} {a} {b}"),
+            Call::SetClockConfigs(_) => {
+                let [sckpcs, pcssck, dbt, sckdiv] = a.to_be_bytes();
+                format!("{name} {sckpcs} {pcssck} {dbt} {sckdiv}")
+            }
+            Call::EnqueueTransaction { .. } => {
+                let order = u32::from(driver.bit_order.is_lsb());
+                format!("{name} {a} {order} {} {}", driver.mode, driver.pcs)
+            }
+            _ => name.to_owned(),
+        }
+    }
+
+    /// The call's own value, as that program prints it.
+    pub(super) fn value_text(&self, value: u64) -> String {
+        match self.call() {
+            Call::Watermark(_) | Call::SetWatermark(..) => format!("value {value}"),
+            Call::Status => format!("status {value:08X}"),
+            Call::IsEnabled if value == 1 => "enabled".to_owned(),
+            Call::IsEnabled => "not enabled".to_owned(),
+            Call::FifoStatus => {
+                let [rxcount, txcount, rxcap, txcap] =
+                    [0, 16, 32, 48].map(|bits| value >> bits & 0xFFFF);
+                let full = |count, cap| if count >= cap { "full" } else { "not full" };
+                let (tx, rx) = (full(txcount, txcap), full(rxcount, rxcap));
+                format!("fifo {rxcount} {txcount} {rxcap} {txcap}\nTx {tx}\nRx {rx}")
+            }
+            Call::ReadData if value == 0 => "no word".to_owned(),
+            Call::ReadData => format!("word {:08X}", value as u32),
+            _ => String::new(),
+        }
     }
 
     /// What the port leaves.

@@ -1,0 +1,30 @@
+-- Every digit is looked at.
+-- Assumes nothing.
+use Prim.Native.Nat.{_-_, _≤_}
+use borrow.Author.Needs.{needs}
+use Rattle.lpspi.proofs.text.number.Statement.{statement}
+use Rattle.lpspi.proofs.text.number.Tie as tie
+
+abbrev Inv-loop : tie.InvT-loop
+Inv-loop word hexadecimal base n₀ i₀ i-end n i = i ≤ i-end
+
+abbrev μ-loop : tie.MeasureT-loop
+μ-loop word hexadecimal base n₀ i₀ i-end n i = i-end - i
+
+pub number-spec : {M : Type 1} → statement M
+number-spec =
+    tie.close
+    (tie.spec
+    Inv-loop
+    μ-loop
+    (λ c. search needs)
+    (λ c. search needs)
+    (λ c. search needs)
+    (λ c κs. search needs)
+    (λ c. search needs)
+    (λ c κs. search needs)
+    (λ c. search needs)
+    (λ c. search needs)
+    (λ c. search needs)
+    (λ c. search needs)
+    (λ c. search needs))
