@@ -65,7 +65,10 @@ fn every_call_is_documented() {
         };
         assert!(documented, "{name} is not in docs/CALLS.md");
         let called = |line: &str| line.split(' ').next() == Some(&name);
-        assert!(examples.lines().any(called), "{name} is not in the examples");
+        assert!(
+            examples.lines().any(called),
+            "{name} is not in the examples"
+        );
     }
 }
 
