@@ -42,9 +42,13 @@ module _ (r : RunResult) (word : ℕ) {n next accesses answers : ℕ} (e : hostL
   pub host-value : {v : ℕ} {log : List ℕ} {x : Answered ℕ} → valueLeft r v log ≡ x → hostValue n next accesses answers v log ≡ ofAnswered word x
   host-value {v} {log} f = ap (λ (h : HostLeft). hostValue (h .number) (h .driver) (h .accesses) (h .answers) v log) e ∙ ap (ofAnswered word) f
 
--- its value as a number
-pub as-number : {A : Type 0} (f : A → ℕ) {r : RunResult} {u : A} {v : ℕ} {log : List ℕ} {x : Answered A} → v ≡ f u → valueLeft r u log ≡ x → valueLeft r v log ≡ numbered f x
-as-number f {r} {u} {v} {log} ev e = ap (λ (n : ℕ). valueLeft r n log) ev ∙ ap (numbered f) e
+-- what was got of a call: its result, and its value or a number of that
+pub got : {r s : RunResult} {u v : ℕ} {log : List ℕ} {x : Answered ℕ} → (s ≡ r) × (v ≡ u) → valueLeft r u log ≡ x → valueLeft s v log ≡ x
+got {r} {s} {u} {v} {log} g e = ap (λ (q : RunResult). valueLeft q v log) (g .0) ∙ ap (λ (n : ℕ). valueLeft r n log) (g .1) ∙ e
+
+pub got-number : {A : Type 0} (f : A → ℕ) {r s : RunResult} {u : A} {v : ℕ} {log : List ℕ} {x : Answered A}
+    → (s ≡ r) × (v ≡ f u) → valueLeft r u log ≡ x → valueLeft s v log ≡ numbered f x
+got-number f g e = got g (ap (numbered f) e)
 
 -- a command that was made is the one of its word
 pub transaction-of : (t : Transaction) {w : ℕ} → t .0 ≡ w → t ≡ transactionOf w

@@ -28,7 +28,12 @@ use calls::reset::init;
 use calls::reset::recover_from_error;
 use calls::reset::soft_reset;
 use calls::results::Data;
+use calls::results::DataResult;
+use calls::results::EnabledResult;
+use calls::results::FifoResult;
 use calls::results::FifoStatus;
+use calls::results::LevelResult;
+use calls::results::StatusResult;
 use calls::status::clear_status;
 use calls::status::is_enabled;
 use calls::status::set_enable;
@@ -207,6 +212,59 @@ fn data_number(found: Data) -> u64
     }
 }
 
+fn of_level(r: LevelResult) -> Got
+    ensures { λ g. ⌜ (g .result ≡ r .result) × (g .value ≡ r .level) ⌝ }
+{
+    let result = r.result;
+    Got {
+        result,
+        value: r.level as u64,
+    }
+}
+
+fn of_status(r: StatusResult) -> Got
+    ensures { λ g. ⌜ (g .result ≡ r .result) × (g .value ≡ r .status .bits) ⌝ }
+{
+    let result = r.result;
+    let flags = r.status;
+    Got {
+        result,
+        value: flags.bits() as u64,
+    }
+}
+
+fn of_enabled(r: EnabledResult) -> Got
+    ensures { λ g. ⌜ (g .result ≡ r .result) × (g .value ≡ flagOf (r .enabled)) ⌝ }
+{
+    let result = r.result;
+    Got {
+        result,
+        value: flag(r.enabled),
+    }
+}
+
+fn of_fifo(r: FifoResult) -> Got
+    ensures { λ g. ⌜ (g .result ≡ r .result) × (g .value ≡ fifoNumber (r .fifo)) ⌝ }
+{
+    let result = r.result;
+    let fifo = r.fifo;
+    Got {
+        result,
+        value: fifo_number(fifo),
+    }
+}
+
+fn of_data(r: DataResult) -> Got
+    ensures { λ g. ⌜ (g .result ≡ r .result) × (g .value ≡ wordsNumber (wordsOf (r .data))) ⌝ }
+{
+    let result = r.result;
+    let data = r.data;
+    Got {
+        result,
+        value: data_number(data),
+    }
+}
+
 fn get(
     kind: u32,
     a: u32,
@@ -220,54 +278,22 @@ fn get(
 {
     let n = kind % 6;
     if n == 0 {
-        let r = watermark(driver, direction(a), budget, script, log);
-        let result = r.result;
-        return Got {
-            result,
-            value: r.level as u64,
-        };
+        return of_level(watermark(driver, direction(a), budget, script, log));
     }
     if n == 1 {
-        let r = set_watermark(driver, direction(a), (b % 256) as u8, budget, script, log);
-        let result = r.result;
-        return Got {
-            result,
-            value: r.level as u64,
-        };
+        let level = (b % 256) as u8;
+        return of_level(set_watermark(driver, direction(a), level, budget, script, log));
     }
     if n == 2 {
-        let r = status(driver, budget, script, log);
-        let result = r.result;
-        let flags = r.status;
-        return Got {
-            result,
-            value: flags.bits() as u64,
-        };
+        return of_status(status(driver, budget, script, log));
     }
     if n == 3 {
-        let r = is_enabled(driver, budget, script, log);
-        let result = r.result;
-        return Got {
-            result,
-            value: flag(r.enabled),
-        };
+        return of_enabled(is_enabled(driver, budget, script, log));
     }
     if n == 4 {
-        let r = fifo_status(driver, budget, script, log);
-        let result = r.result;
-        let fifo = r.fifo;
-        return Got {
-            result,
-            value: fifo_number(fifo),
-        };
+        return of_fifo(fifo_status(driver, budget, script, log));
     }
-    let r = read_data(driver, budget, script, log);
-    let result = r.result;
-    let data = r.data;
-    Got {
-        result,
-        value: data_number(data),
-    }
+    of_data(read_data(driver, budget, script, log))
 }
 
 #[no_mangle]
