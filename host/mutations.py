@@ -107,6 +107,7 @@ def differing(output, directed):
 
 
 only = [int(a) for a in sys.argv[1:]]
+assert all(n in range(len(MUTATIONS)) for n in only), "no such change"
 wrong = 0
 with tempfile.TemporaryDirectory() as folder:
     path = os.path.join(folder, "lpspi.rs")

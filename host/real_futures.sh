@@ -7,6 +7,7 @@ set -euo pipefail
 host=$(cd "$(dirname "$0")" && pwd)
 registry=$(cd "$1/usr/share/cargo/registry" && pwd)
 shift
+(($# > 0)) || { echo "no seed" >&2; exit 2; }
 
 copy=$(mktemp -d)
 trap 'rm -r "$copy"' EXIT

@@ -101,6 +101,8 @@ def main():
         return seen
 
     believed = reach(public)
+    if not believed or not set(wanted) <= set(crates()):
+        sys.exit('no definition is reached, or no such library: ' + ' '.join(wanted))
     print('lines  reached  file')
     total = 0
     for path, (own, _) in specs.items():

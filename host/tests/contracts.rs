@@ -24,7 +24,7 @@ fn public_functions(text: &str) -> Vec<String> {
         .collect();
     let public = |line: &str| {
         let line = line.trim_start();
-        line.starts_with("pub fn ") || line.starts_with("pub extern \"C\" fn ")
+        line.starts_with("pub ") && format!(" {line}").contains(" fn ")
     };
     let mut functions = Vec::new();
     for (i, line) in lines.iter().enumerate() {
@@ -43,30 +43,38 @@ fn public_functions(text: &str) -> Vec<String> {
 #[test]
 fn public_functions_have_contracts() {
     let crates = Path::new(env!("CARGO_MANIFEST_DIR")).join("../crates");
-    let mut files = Vec::new();
+    let mut without = Vec::new();
+    let mut seen = 0;
     for entry in fs::read_dir(&crates).unwrap() {
         let source = entry.unwrap().path().join("src");
-        if source.join("lib.rt").exists() {
-            sources(&source, &mut files);
+        if !source.join("lib.rt").exists() {
+            continue;
         }
-    }
-    let mut seen = 0;
-    for file in files {
-        for function in public_functions(&fs::read_to_string(&file).unwrap()) {
-            seen += 1;
-            assert!(
-                function.contains("ensures"),
-                "{}: no contract: {function}",
-                file.display()
-            );
-            assert!(
-                !function.contains("requires"),
-                "{}: a demand on the caller: {function}",
-                file.display()
-            );
+        let before = seen;
+        let mut files = Vec::new();
+        sources(&source, &mut files);
+        for file in files {
+            for function in public_functions(&fs::read_to_string(&file).unwrap()) {
+                seen += 1;
+                assert!(
+                    function.contains("ensures"),
+                    "{}: no contract: {function}",
+                    file.display()
+                );
+                assert!(
+                    !function.contains("requires"),
+                    "{}: a demand on the caller: {function}",
+                    file.display()
+                );
+            }
+        }
+        if seen == before {
+            without.push(source);
         }
     }
     assert!(seen > 100, "only {seen} public functions were found");
+    // The crate of proved examples has no code.
+    assert_eq!(without, [crates.join("cases/src")]);
 }
 
 #[test]

@@ -139,6 +139,7 @@ fn runs_without_accesses() {
             assert_eq!(driver, word, "{case}");
         }
         assert_eq!(log, found(log_len), "{case}");
+        random.cases.count();
     }
 }
 
@@ -184,6 +185,7 @@ fn the_word_of_the_driver() {
             None => word,
         };
         assert_eq!(driver, expected, "{case:?}");
+        random.cases.count();
     }
 }
 

@@ -7,7 +7,7 @@ use std::{env, thread};
 
 /// Counts the cases of a test, and compares two sides in each.
 ///
-/// A difference ends the test. With `LPSPI_COUNT` set the differing cases are
+/// A test without a case fails. A difference ends the test. With `LPSPI_COUNT` set the differing cases are
 /// counted, and the test fails at its end.
 pub struct Cases {
     test: &'static str,
@@ -59,6 +59,7 @@ impl Drop for Cases {
             cases,
             differing,
         } = *self;
+        assert!(cases > 0 || thread::panicking(), "{test}: no case");
         if counting {
             println!("{test}: {differing} of {cases} cases differ");
             assert!(differing == 0 || thread::panicking());
@@ -88,6 +89,7 @@ impl<B: Copy + Ord + Debug> Tally<B> {
     /// Prints all counts. Each must be what is asked of its branch, or more.
     pub fn demand(&self, name: &dyn Debug, least: impl Fn(B) -> u32) {
         println!("{name:?}: {:?}", self.0);
+        assert!(!self.0.is_empty(), "{name:?}: no branch");
         let missed: Vec<_> = self
             .0
             .iter()

@@ -24,5 +24,6 @@ pub fn shown(page: &str, name: &str) -> Vec<(String, String)> {
     });
     let pairs: Vec<_> = pairs.collect();
     assert_eq!(pieces.len(), 4 * pairs.len() + 1);
+    assert!(!pairs.is_empty(), "{page} shows no input");
     pairs
 }
