@@ -22,8 +22,8 @@ use Rattle.machine.specs.declared.transfer.Transfer.{Transfer}
 use Rattle.sequences.specs.Driver.{driverCommand}
 use Rattle.machine.specs.Transfer.{startTransfer, endedTransfer}
 use Rattle.transfers.specs.Transfers.{begun, separatePlan, inPlacePlan}
-use Rattle.bus.specs.declared.board.Board.{Board}
-use Rattle.bus.specs.Start.{unfitBy, Start, elementBits, total, transferOf}
+use Rattle.agreement.specs.declared.board.Board.{Board}
+use Rattle.agreement.specs.Start.{unfitBy, Start, elementBits, total, transferOf}
 use Rattle.bus.specs.Begin.{totalBy, begunBy}
 
 pub total-is : (s : Start) → total s ≡ totalBy (s .board .inplace) (length (s .read)) (length (s .write))

@@ -8,17 +8,17 @@ use mathlib.Core.Path.{_≡_, refl, sym, ap, ap₂, _∙_, subst}
 use native.Mathlib.Omega.{arith}
 use Rattle.words.specs.declared.transaction.Direction.the-variants.{Tx, Rx}
 use Rattle.words.proofs.WordLaws.{Elements}
-use Rattle.bus.specs.declared.board.Board.{Board}
-use Rattle.bus.specs.declared.event.Event.{Event}
-use Rattle.bus.specs.declared.event.Event.the-variants.{Step, Clock, Noise}
-use Rattle.bus.specs.declared.event.Side.the-variants.{Gate, Antenna}
-use Rattle.bus.specs.Start.{Start, accepted, unfit}
-use Rattle.bus.specs.Events.{pairAfter}
-use Rattle.bus.specs.Tally.{tally}
-use Rattle.bus.specs.Agreement.{Seen, seen, OkTwice, Plain}
-use Rattle.bus.specs.Codes.{eventOf, eventsOf}
+use Rattle.agreement.specs.declared.board.Board.{Board}
+use Rattle.agreement.specs.declared.event.Event.{Event}
+use Rattle.agreement.specs.declared.event.Event.the-variants.{Step, Clock, Noise}
+use Rattle.agreement.specs.declared.event.Side.the-variants.{Gate, Antenna}
+use Rattle.agreement.specs.Start.{Start, accepted, unfit}
+use Rattle.agreement.specs.Events.{pairAfter}
+use Rattle.agreement.specs.Tally.{tally}
+use Rattle.agreement.specs.Agreement.{Seen, seen, OkTwice, Plain}
+use Rattle.agreement.specs.Codes.{eventOf, eventsOf}
+use Rattle.agreement.proofs.Demand3.{finishes}
 use Rattle.bus.specs.Trial.{Slices, startOf, TrialLeft, trialOf}
-use Rattle.bus.proofs.Demand3.{finishes}
 
 -- A BYTE FOR EVERY EVENT
 abbrev pub byteOf : Event → ℕ

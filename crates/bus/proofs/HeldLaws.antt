@@ -19,14 +19,14 @@ use Rattle.words.specs.Width.{widthBits}
 use Rattle.runs.specs.declared.drive.Frame.{Frame}
 use Rattle.runs.specs.Drive.{wordIn}
 use Rattle.words.specs.declared.transaction.Direction.{Direction}
+use Rattle.agreement.specs.End.{Wire, raised, full, front, behind, placeOf, wireAfter}
+use Rattle.agreement.specs.Events.{rewired}
+use Rattle.agreement.proofs.ShownLaws.{capacity-small}
 use Rattle.bus.specs.declared.fifo.Fifo.{Fifo}
 use Rattle.bus.specs.declared.port.Port.{Port}
 use Rattle.bus.specs.declared.station.Station.{Station}
-use Rattle.bus.specs.End.{Wire, raised, full, front, behind, placeOf, wireAfter}
-use Rattle.bus.specs.Events.{rewired}
 use Rattle.bus.specs.View.{queueOf, wireOf}
 use Rattle.bus.specs.Held.{Sized, endOf, sentWord}
-use Rattle.bus.proofs.ShownLaws.{capacity-small}
 
 -- A WORD MORE
 pub push-queue : (words : List ℕ) (n w : ℕ) → n < length words → take (n + 1) (set words n w) ≡ take n words ++ (w ∷ [])

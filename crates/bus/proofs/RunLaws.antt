@@ -11,18 +11,18 @@ use lib.Seq.{length-take-le}
 use Rattle.sequences.specs.declared.access.Access.{Access}
 use Rattle.sequences.specs.declared.access.Access.the-variants.{Read, Write, Send, Receive, Done}
 use Rattle.machine.specs.Transfer.{dueAccess}
-use Rattle.bus.specs.declared.event.Event.{Event}
-use Rattle.bus.specs.declared.event.Event.the-variants.{Step, Clock, Noise}
-use Rattle.bus.specs.declared.event.Side.the-variants.{Gate, Antenna}
+use Rattle.agreement.specs.declared.event.Event.{Event}
+use Rattle.agreement.specs.declared.event.Event.the-variants.{Step, Clock, Noise}
+use Rattle.agreement.specs.declared.event.Side.the-variants.{Gate, Antenna}
+use Rattle.agreement.specs.Start.{Start, frameWords, accepted, Job, job}
+use Rattle.agreement.specs.Codes.{eventOf, eventsOf}
+use Rattle.agreement.specs.End.{Wire, wireAfter, registersAfter, End, endAccess, stepped}
+use Rattle.agreement.specs.Events.{Pair, pair, clockedBy, happened, after, freshPair, pairAfter}
+use Rattle.agreement.proofs.StartFacts.{fit}
+use Rattle.agreement.proofs.Demand3.{gate-receives, antenna-receives, gate-sends, antenna-sends}
 use Rattle.bus.specs.declared.station.Link.{Link}
 use Rattle.bus.specs.declared.station.Station.{Station}
-use Rattle.bus.specs.Start.{Start, frameWords, accepted, Job, job}
-use Rattle.bus.specs.Codes.{eventOf, eventsOf}
-use Rattle.bus.specs.End.{Wire, wireAfter, registersAfter, End, endAccess, stepped}
-use Rattle.bus.specs.Events.{Pair, pair, clockedBy, happened, after, freshPair, pairAfter}
 use Rattle.bus.specs.Held.{endOf, linkJob, Stored, Linked}
-use Rattle.bus.proofs.StartFacts.{fit}
-use Rattle.bus.proofs.Demand3.{gate-receives, antenna-receives, gate-sends, antenna-sends}
 use Rattle.bus.proofs.StationLaws.{word-due, same-end}
 
 -- one event more

@@ -18,19 +18,19 @@ use Rattle.machine.specs.Transfer.{dueAccess, resumed}
 use Rattle.runs.specs.Drive.{wordIn, gotAfter, wordsAfter}
 use Rattle.runs.specs.Run.{answerOf, receivedAfter}
 use Rattle.runs.proofs.Places.{counted-up}
-use Rattle.bus.specs.declared.event.Event.{Event}
-use Rattle.bus.specs.declared.event.Event.the-variants.{Step, Clock, Noise}
-use Rattle.bus.specs.declared.event.Side.the-variants.{Gate, Antenna}
+use Rattle.agreement.specs.declared.event.Event.{Event}
+use Rattle.agreement.specs.declared.event.Event.the-variants.{Step, Clock, Noise}
+use Rattle.agreement.specs.declared.event.Side.the-variants.{Gate, Antenna}
+use Rattle.agreement.specs.Start.{Job}
+use Rattle.agreement.specs.End.{Wire, queues, raised, arrived, front, behind, answerTo, wireAfter, registersAfter, End, end, firstDue, endAccess, endAfter, stepped}
+use Rattle.agreement.specs.Events.{Pair, pair, rewired, clockedBy, happened}
+use Rattle.agreement.proofs.WordLists.{false-true}
 use Rattle.bus.specs.declared.fifo.Fifo.{Fifo}
 use Rattle.bus.specs.declared.port.Port.{Port}
 use Rattle.bus.specs.declared.station.Link.{Link}
 use Rattle.bus.specs.declared.station.Station.{Station}
-use Rattle.bus.specs.Start.{Job}
-use Rattle.bus.specs.End.{Wire, queues, raised, arrived, front, behind, answerTo, wireAfter, registersAfter, End, end, firstDue, endAccess, endAfter, stepped}
-use Rattle.bus.specs.Events.{Pair, pair, rewired, clockedBy, happened}
 use Rattle.bus.specs.View.{queueOf, wireOf}
 use Rattle.bus.specs.Held.{Sized, endOf, linkJob, sentWord, flushNext, Stored, Clocked}
-use Rattle.bus.proofs.WordLists.{false-true}
 use Rattle.bus.proofs.HeldLaws.{push-queue, word-taken, wire-sent, Ported, ported}
 
 -- A STEP

@@ -23,22 +23,22 @@ use Rattle.machine.specs.declared.transfer.Transfer.{Transfer}
 use Rattle.runs.specs.declared.drive.Frame.{Frame}
 use Rattle.runs.specs.Drive.{wordIn}
 use Rattle.transfers.specs.Transfers.{Plan, separatePlan, inPlacePlan}
-use Rattle.bus.specs.declared.board.Board.{Board}
+use Rattle.agreement.specs.declared.board.Board.{Board}
+use Rattle.agreement.specs.Start.{Start, elementBits, started, total, frameWords, accepted, unfit, job}
+use Rattle.agreement.specs.End.{freshWire, freshRegisters, End, end, freshEnd}
+use Rattle.agreement.specs.Events.{pairAfter}
+use Rattle.agreement.specs.Agreement.{Seen, seen, bufferOf, Agreement}
+use Rattle.agreement.specs.Codes.{eventsOf}
+use Rattle.agreement.proofs.StartFacts.{divides}
+use Rattle.agreement.proofs.Demand3.{agreement}
 use Rattle.bus.specs.declared.station.Link.{Link}
 use Rattle.bus.specs.declared.station.Station.{Station}
-use Rattle.bus.specs.Start.{Start, elementBits, started, total, frameWords, accepted, unfit, job}
 use Rattle.bus.specs.Begin.{totalBy, begunBy}
-use Rattle.bus.specs.End.{freshWire, freshRegisters, End, end, freshEnd}
-use Rattle.bus.specs.Events.{pairAfter}
-use Rattle.bus.specs.Agreement.{Seen, seen, bufferOf, Agreement}
-use Rattle.bus.specs.Codes.{eventsOf}
 use Rattle.bus.specs.Held.{endOf, linkJob, LinkOf}
 use Rattle.bus.specs.declared.trial.Outcome.{Outcome}
 use Rattle.bus.specs.View.{stationSeen, stateOf}
 use Rattle.bus.specs.Trial.{Slices, pick, placed, startOf, TrialLeft, trialLeft, trialOf}
 use Rattle.bus.proofs.BeginLaws.{total-is, begun-is}
-use Rattle.bus.proofs.StartFacts.{divides}
-use Rattle.bus.proofs.Demand3.{agreement}
 
 -- LINKS
 blank : (n j : ℕ) → getD (replicate {A = ℕ} n 0) j 0 ≡ 0

@@ -16,17 +16,17 @@ use Rattle.machine.specs.Flush.{flushed}
 use Rattle.machine.specs.Transfer.{dueAccess}
 use Rattle.runs.specs.Drive.{wordIn}
 use Rattle.runs.specs.Run.{ended}
-use Rattle.bus.specs.declared.board.Board.{Board}
+use Rattle.agreement.specs.declared.board.Board.{Board}
+use Rattle.agreement.specs.Start.{Start, total, frameWords, accepted, unfit, Job, job}
+use Rattle.agreement.specs.End.{End, end}
+use Rattle.agreement.specs.Events.{pair, clockedBy, freshPair, pairAfter}
+use Rattle.agreement.specs.Agreement.{seen, bufferOf}
+use Rattle.agreement.specs.Codes.{eventsOf}
 use Rattle.bus.specs.declared.clock.Stations.{Stations}
 use Rattle.bus.specs.declared.fifo.Fifo.{Fifo}
 use Rattle.bus.specs.declared.port.Port.{Port}
 use Rattle.bus.specs.declared.station.Link.{Link}
 use Rattle.bus.specs.declared.station.Station.{Station}
-use Rattle.bus.specs.Start.{Start, total, frameWords, accepted, unfit, Job, job}
-use Rattle.bus.specs.End.{End, end}
-use Rattle.bus.specs.Events.{pair, clockedBy, freshPair, pairAfter}
-use Rattle.bus.specs.Agreement.{seen, bufferOf}
-use Rattle.bus.specs.Codes.{eventsOf}
 use Rattle.bus.specs.View.{queueOf, wireOf, stationSeen}
 use Rattle.bus.specs.Trial.{Slices, placed, startOf}
 

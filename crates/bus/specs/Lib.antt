@@ -1,11 +1,4 @@
--- Read in this order.
-pub mod Start
-pub mod End
-pub mod Events
-pub mod Course
-pub mod Tally
-pub mod Agreement
-pub mod Codes
+-- Read in this order, after `agreement`.
 pub mod View
 pub mod Trial
 -- only private contracts cite these

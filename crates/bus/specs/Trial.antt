@@ -5,13 +5,13 @@ use mathlib.Core.Bool.{cond}
 use mathlib.Core.List.{List}
 use Rattle.words.specs.declared.width.Width.{Width}
 use Rattle.words.specs.declared.width.Width.the-variants.{U8, U16, U32}
-use Rattle.bus.specs.declared.board.Board.{Board}
+use Rattle.agreement.specs.declared.board.Board.{Board}
+use Rattle.agreement.specs.Start.{Start, unfit}
+use Rattle.agreement.specs.End.{freshEnd}
+use Rattle.agreement.specs.Events.{pairAfter}
+use Rattle.agreement.specs.Agreement.{Seen, seen, bufferOf}
+use Rattle.agreement.specs.Codes.{eventsOf}
 use Rattle.bus.specs.declared.trial.Outcome.{Outcome}
-use Rattle.bus.specs.Start.{Start, unfit}
-use Rattle.bus.specs.End.{freshEnd}
-use Rattle.bus.specs.Events.{pairAfter}
-use Rattle.bus.specs.Agreement.{Seen, seen, bufferOf}
-use Rattle.bus.specs.Codes.{eventsOf}
 use Rattle.bus.specs.View.{stateOf}
 
 -- one slice a width

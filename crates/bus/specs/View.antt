@@ -3,12 +3,12 @@
 use Prim.Native.Nat.{ℕ}
 use mathlib.Core.List.{List}
 use lib.ListN.{take}
+use Rattle.agreement.specs.End.{Wire}
+use Rattle.agreement.specs.Agreement.{Seen}
 use Rattle.bus.specs.declared.fifo.Fifo.{Fifo}
 use Rattle.bus.specs.declared.port.Port.{Port}
 use Rattle.bus.specs.declared.station.Station.{Station}
 use Rattle.bus.specs.declared.trial.EndState.{EndState}
-use Rattle.bus.specs.End.{Wire}
-use Rattle.bus.specs.Agreement.{Seen}
 
 -- a FIFO's queue: of its places those that it counts, the first word first
 abbrev pub queueOf : Fifo → List ℕ

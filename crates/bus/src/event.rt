@@ -1,21 +1,9 @@
-// What happens on the bus.
+// Events from bytes.
 ghost use mathlib.Core.Path.{_≡_};
-ghost use Rattle.bus.specs.Codes.{eventOf};
+ghost use Rattle.agreement.specs.Codes.{eventOf};
+use agreement::event::Event;
+use agreement::event::Side;
 use words::transaction::Direction;
-
-pub(crate) enum Side {
-    Gate,
-    Antenna,
-}
-
-pub(crate) enum Event {
-    // The next access of an end, and the busy bit that SR would show.
-    Step(Side, bool),
-    // A word each way.
-    Clock,
-    // The error flag of a direction is set at an end.
-    Noise(Side, Direction),
-}
 
 // The event of a byte.
 pub(crate) fn event_of(code: u8) -> Event

@@ -3,7 +3,7 @@ ghost use Prim.Native.Nat.{_<_, _≤_};
 ghost use mathlib.Core.List.{[], _∷_, _++_};
 ghost use mathlib.Core.Path.{_≡_};
 ghost use lib.ListN.{length, getD, take, drop};
-ghost use Rattle.bus.specs.End.{front, behind};
+ghost use Rattle.agreement.specs.End.{front, behind};
 ghost use Rattle.bus.specs.View.{queueOf};
 ghost use Rattle.bus.specs.Held.{Sized};
 

@@ -1,6 +1,5 @@
 // The two-board bus: a gate board that clocks it, and an antenna board that replies.
 mod begin;
-pub mod board;
 mod buffers;
 mod clock;
 mod event;

@@ -2,11 +2,11 @@
 ghost use Prim.Native.Nat.{_^_, _≤_};
 ghost use mathlib.Core.Bool.{false, cond};
 ghost use mathlib.Core.Path.{_≡_};
-ghost use Rattle.bus.specs.End.{queues, behind, raised, full, sentInto, arrived, emptiedIf, showsBy, readBy, writtenBy, freshWire};
+ghost use Rattle.agreement.specs.End.{queues, behind, raised, full, sentInto, arrived, emptiedIf, showsBy, readBy, writtenBy, freshWire};
 ghost use Rattle.bus.specs.View.{queueOf, wireOf};
 ghost use Rattle.bus.specs.Held.{Sized, Roomy};
 use crate::fifo::Fifo;
-use crate::register::Role;
+use agreement::register::Role;
 use manual::Cr;
 use manual::Field;
 use manual::Fsr;

@@ -1,25 +1,9 @@
 // What the registers do on the bus.
 ghost use Prim.Native.Nat.{_<_};
 ghost use mathlib.Core.Path.{_≡_};
-ghost use Rattle.bus.specs.End.{roleOf, placeOf};
+ghost use Rattle.agreement.specs.End.{roleOf, placeOf};
+use agreement::register::Role;
 use manual::Register;
-
-pub(crate) enum Role {
-    // PARAM
-    Sizes,
-    // SR
-    Status,
-    // FSR
-    Counts,
-    // CR
-    Control,
-    // TDR
-    Sends,
-    // RDR
-    Receives,
-    // The others hold what was written.
-    Holds,
-}
 
 pub(crate) fn role_of(register: Register) -> Role
     ensures { λ r. ⌜ r ≡ roleOf register ⌝ }

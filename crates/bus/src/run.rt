@@ -2,17 +2,17 @@
 ghost use Prim.Native.Nat.{_≤_};
 ghost use mathlib.Core.Path.{_≡_};
 ghost use lib.ListN.{length};
-ghost use Rattle.bus.specs.Events.{pair, happened, pairAfter, freshPair};
-ghost use Rattle.bus.specs.Codes.{eventsOf};
-ghost use Rattle.bus.specs.Start.{Start};
+ghost use Rattle.agreement.specs.Events.{pair, happened, pairAfter, freshPair};
+ghost use Rattle.agreement.specs.Codes.{eventsOf};
+ghost use Rattle.agreement.specs.Start.{Start};
 ghost use Rattle.bus.specs.Held.{Roomy, Stored, endOf, linkJob, Linked};
 use crate::clock::Stations;
 use crate::clock::clock;
-use crate::event::Event;
-use crate::event::Side;
 use crate::event::event_of;
 use crate::station::Link;
 use crate::station::step;
+use agreement::event::Event;
+use agreement::event::Side;
 
 // One event.
 fn happen(

@@ -11,7 +11,7 @@ use Rattle.sequences.specs.declared.access.Ending.the-variants.{Ok, Err, Stoppe
 use Rattle.sequences.specs.Access.{numberOf}
 use Rattle.machine.specs.Flush.{flushAccess}
 use Rattle.machine.specs.Transfer.{dueAccess}
-use Rattle.bus.specs.Agreement.{Seen, OkTwice}
+use Rattle.agreement.specs.Agreement.{Seen, OkTwice}
 use Rattle.c_api.specs.HostBus.{answerNumber}
 
 -- only Ok has the number 0

@@ -13,13 +13,13 @@ use Rattle.words.specs.declared.width.Width.the-variants.{U8, U16, U32}
 use Rattle.words.specs.Width.{widthBits}
 use Rattle.words.proofs.LaidLaws.{laid-at}
 use Rattle.words.proofs.WordLaws.{Elements}
-use Rattle.bus.specs.declared.board.Board.{Board}
-use Rattle.bus.specs.Start.{Start, unfit}
-use Rattle.bus.specs.Events.{pairAfter}
-use Rattle.bus.specs.Agreement.{Seen, OkTwice, bufferOf, Holds, Agreement}
-use Rattle.bus.specs.Codes.{eventsOf}
+use Rattle.agreement.specs.declared.board.Board.{Board}
+use Rattle.agreement.specs.Start.{Start, unfit}
+use Rattle.agreement.specs.Events.{pairAfter}
+use Rattle.agreement.specs.Agreement.{Seen, OkTwice, bufferOf, Holds, Agreement}
+use Rattle.agreement.specs.Codes.{eventsOf}
+use Rattle.agreement.proofs.Demand3.{agreement}
 use Rattle.bus.specs.Trial.{Slices, pick, placed, startOf, TrialLeft, trialOf}
-use Rattle.bus.proofs.Demand3.{agreement}
 use Rattle.c_api.specs.HostBus.{boardOf, lent, stateWords, stateLeft, HostTrial, trialBy}
 use Rattle.c_api.proofs.AnswerLaws.{ok-of-numbers}
 use Rattle.c_api.proofs.PairLaws.{length-state}

@@ -10,9 +10,9 @@ use Rattle.words.specs.declared.width.Width.{Width}
 use Rattle.words.specs.Buffer.{filled, tabulate}
 use Rattle.words.specs.Word.{laid}
 use Rattle.words.proofs.BufferLaws.{length-filled, store-stop}
-use Rattle.bus.specs.declared.board.Board.{Board}
+use Rattle.agreement.specs.declared.board.Board.{Board}
+use Rattle.agreement.specs.Agreement.{Seen}
 use Rattle.bus.specs.declared.trial.Outcome.{Outcome}
-use Rattle.bus.specs.Agreement.{Seen}
 use Rattle.bus.specs.Trial.{Slices, pick, TrialLeft, trialLeft, trialOf}
 use Rattle.bus.specs.View.{stateOf}
 use Rattle.c_api.specs.HostBus.{headWords, stateWords, stateLeft, boardOf, lent, hostTrial, ofTrial, trialBy}

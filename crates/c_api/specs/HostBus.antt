@@ -16,9 +16,9 @@ use Rattle.machine.specs.declared.transfer.Transfer.{Transfer}
 use Rattle.sequences.specs.Access.{numberOf}
 use Rattle.machine.specs.Flush.{flushAccess}
 use Rattle.machine.specs.Transfer.{dueAccess}
-use Rattle.bus.specs.declared.board.Board.{Board}
-use Rattle.bus.specs.Agreement.{Seen}
-use Rattle.bus.specs.End.{Wire}
+use Rattle.agreement.specs.declared.board.Board.{Board}
+use Rattle.agreement.specs.Agreement.{Seen}
+use Rattle.agreement.specs.End.{Wire}
 use Rattle.bus.specs.Trial.{Slices, slices, pick, placed, TrialLeft, trialOf}
 use Rattle.c_api.specs.HostRun.{driverOf}
 

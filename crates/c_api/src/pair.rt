@@ -13,7 +13,7 @@ ghost use Rattle.words.specs.Word.{laid};
 ghost use Rattle.bus.specs.View.{wireOf, stateOf};
 ghost use Rattle.c_api.specs.HostBus.{answerNumber, headWords, stateWords, stateLeft, boardOf, hostTrial, trialBy};
 use crate::driver::driver_of;
-use bus::board::Board;
+use agreement::board::Board;
 use bus::station::Station;
 use bus::trial::EndState;
 use bus::trial::Outcome;

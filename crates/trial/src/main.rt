@@ -12,7 +12,7 @@
 ghost use Prim.Native.Nat.{_<_, _≤_, max};
 ghost use mathlib.Core.Path.{_≡_};
 ghost use lib.ListN.{length};
-use bus::board::Board;
+use agreement::board::Board;
 use bus::fifo::Fifo;
 use bus::trial::EndState;
 use bus::trial::trial;

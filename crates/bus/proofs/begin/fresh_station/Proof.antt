@@ -3,7 +3,7 @@
 use mathlib.Core.List.{[]}
 use mathlib.Core.Path.{ap₂, refl}
 use Rattle.machine.specs.declared.flush.Flush.{Flush}
-use Rattle.bus.specs.End.{Wire, end}
+use Rattle.agreement.specs.End.{Wire, end}
 use borrow.Author.Needs.{needs}
 use Rattle.bus.proofs.begin.fresh_station.Statement.{statement}
 use Rattle.bus.proofs.begin.fresh_station.Tie as tie

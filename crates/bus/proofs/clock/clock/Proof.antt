@@ -1,8 +1,8 @@
 -- `clock` meets its contract.
 -- Assumes nothing.
 use mathlib.Core.Path.{refl, sym, ap, ap₂, _∙_, subst}
+use Rattle.agreement.specs.End.{front, behind, arrived}
 use Rattle.bus.specs.declared.port.Port.{Port}
-use Rattle.bus.specs.End.{front, behind, arrived}
 use Rattle.bus.specs.View.{queueOf}
 use Rattle.bus.specs.Held.{Roomy}
 use Rattle.bus.proofs.StationLaws.{no-words, some-words, clock-nothing, clock-made-up, clock-both}

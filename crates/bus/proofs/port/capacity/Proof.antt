@@ -1,6 +1,6 @@
 -- `capacity` meets its contract.
 -- Assumes nothing.
-use Rattle.bus.proofs.ShownLaws.{capacity-small}
+use Rattle.agreement.proofs.ShownLaws.{capacity-small}
 use Prim.Native.Nat.{_*_, _%_, _^_, _<_}
 use native.Mathlib.Nat.{mod-eq-of-lt, one-mul}
 use mathlib.Core.Path.{_≡_, _∙_}

@@ -3,9 +3,9 @@
 use Prim.Native.Nat.{ℕ, _≤_}
 use mathlib.Core.Path.{refl, sym, ap, _∙_, subst}
 use lib.ListN.{length}
-use Rattle.bus.specs.declared.event.Event.the-variants.{Step, Noise}
-use Rattle.bus.specs.declared.event.Side.{Side}
-use Rattle.bus.specs.Events.{pair}
+use Rattle.agreement.specs.declared.event.Event.the-variants.{Step, Noise}
+use Rattle.agreement.specs.declared.event.Side.{Side}
+use Rattle.agreement.specs.Events.{pair}
 use Rattle.bus.specs.Held.{endOf, linkJob}
 use Rattle.bus.proofs.StationLaws.{gate-step-is, antenna-step-is, clock-is, gate-noise-is, antenna-noise-is}
 use borrow.Author.Needs.{needs}

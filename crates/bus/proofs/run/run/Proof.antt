@@ -7,9 +7,9 @@ use lib.ListN.{length, take}
 use lib.Seq.{take-all}
 use mathlib.Core.List.{List}
 use Prim.Native.Nat.{ℕ}
-use Rattle.bus.specs.Start.{Start}
-use Rattle.bus.specs.Codes.{eventsOf}
-use Rattle.bus.specs.Events.{pair, after, freshPair, pairAfter}
+use Rattle.agreement.specs.Start.{Start}
+use Rattle.agreement.specs.Codes.{eventsOf}
+use Rattle.agreement.specs.Events.{pair, after, freshPair, pairAfter}
 use Rattle.bus.specs.Held.{Roomy, endOf, Linked}
 use Rattle.bus.proofs.RunLaws.{one-more, relinked}
 use borrow.Author.Needs.{needs}

@@ -1,8 +1,8 @@
 -- `answer` meets its contract.
 -- Assumes nothing.
+use Rattle.agreement.specs.End.{showsBy}
+use Rattle.agreement.specs.declared.register.Role.{Role}
 use Rattle.bus.specs.View.{wireOf}
-use Rattle.bus.specs.End.{showsBy}
-use Rattle.bus.specs.declared.register.Role.{Role}
 use lib.ListN.{getD}
 use Prim.Native.Nat.{ℕ}
 use mathlib.Core.Path.{ap₂, _∙_}

@@ -1,8 +1,8 @@
 -- `port_after` meets its contract.
 -- Assumes nothing.
 use mathlib.Core.Path.{ap, _∙_}
-use Rattle.bus.specs.declared.register.Role.{Role}
-use Rattle.bus.specs.End.{readBy, writtenBy}
+use Rattle.agreement.specs.declared.register.Role.{Role}
+use Rattle.agreement.specs.End.{readBy, writtenBy}
 use Rattle.bus.specs.View.{wireOf}
 use borrow.Author.Needs.{needs}
 use Rattle.bus.proofs.station.port_after.Statement.{statement}

@@ -9,12 +9,12 @@ use lib.Seq.{length-take-le}
 use Rattle.words.specs.Buffer.{packWords}
 use Rattle.words.specs.Width.{widthBits}
 use Rattle.words.specs.Word.{laid}
-use Rattle.bus.specs.Start.{started}
-use Rattle.bus.specs.Codes.{eventsOf}
-use Rattle.bus.specs.Events.{Pair, pairAfter}
-use Rattle.bus.specs.Agreement.{seen}
+use Rattle.agreement.specs.Start.{started}
+use Rattle.agreement.specs.Codes.{eventsOf}
+use Rattle.agreement.specs.Events.{Pair, pairAfter}
+use Rattle.agreement.specs.Agreement.{seen}
+use Rattle.agreement.proofs.StartFacts.{fit}
 use Rattle.bus.specs.Trial.{slices, startOf}
-use Rattle.bus.proofs.StartFacts.{fit}
 use Rattle.bus.proofs.TrialLaws.{link-of, buffer-left}
 use borrow.Author.Needs.{needs}
 use Rattle.bus.proofs.trial.exchange.Statement.{statement}

@@ -4,10 +4,10 @@ use Prim.Native.Nat.{ℕ}
 use mathlib.Core.List.{List, []}
 use mathlib.Core.Path.{_≡_, sym, ap, ap₂, _∙_}
 use native.Mathlib.Omega.{arith}
-use Rattle.bus.specs.Start.{unfitBy}
+use Rattle.agreement.specs.Start.{unfitBy}
+use Rattle.agreement.specs.Agreement.{seen}
+use Rattle.agreement.specs.End.{freshEnd}
 use Rattle.bus.specs.Trial.{slices, pick, startOf}
-use Rattle.bus.specs.Agreement.{seen}
-use Rattle.bus.specs.End.{freshEnd}
 use Rattle.bus.specs.Held.{endOf}
 use Rattle.bus.proofs.TrialLaws.{total-lent, fresh-lent, elements-lent, picked, agreement-left, left-refused, left-run, state-left}
 use Rattle.bus.proofs.StationLaws.{same-pair}

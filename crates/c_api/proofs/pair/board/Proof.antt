@@ -2,7 +2,7 @@
 -- Assumes nothing.
 use mathlib.Core.Path.{ap}
 use Rattle.sequences.specs.declared.driver.Lpspi.{Lpspi}
-use Rattle.bus.specs.declared.board.Board.{Board}
+use Rattle.agreement.specs.declared.board.Board.{Board}
 use lib.Dec.{eqb}
 use Prim.Native.Nat.{_%_}
 use borrow.Author.Needs.{needs}

@@ -3,7 +3,7 @@
 use mathlib.Core.Path.{sym, ap, _∙_}
 use mathlib.Core.List.{List}
 use Prim.Native.Nat.{ℕ}
-use Rattle.bus.specs.End.{queues}
+use Rattle.agreement.specs.End.{queues}
 use Rattle.bus.specs.View.{queueOf, wireOf}
 use Rattle.bus.proofs.HeldLaws.{room}
 use borrow.Author.Needs.{needs}

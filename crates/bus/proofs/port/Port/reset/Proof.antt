@@ -1,6 +1,6 @@
 -- `Port::reset` meets its contract.
 -- Assumes nothing.
-use Rattle.bus.specs.End.{emptiedIf}
+use Rattle.agreement.specs.End.{emptiedIf}
 use Rattle.bus.specs.View.{queueOf}
 use lib.Dec.{eqb}
 use mathlib.Core.List.{List}

@@ -3,7 +3,7 @@
 use mathlib.Core.Path.{ap}
 use mathlib.Core.List.{List}
 use Prim.Native.Nat.{ℕ}
-use Rattle.bus.specs.End.{queues}
+use Rattle.agreement.specs.End.{queues}
 use Rattle.bus.specs.View.{queueOf, wireOf}
 use borrow.Author.Needs.{needs}
 use Rattle.bus.proofs.port.Port.without_first.Statement.{statement}

@@ -9,7 +9,7 @@ use Rattle.words.specs.Command.{frameAccepted, lsbfOf}
 use Rattle.words.specs.Width.{widthBits}
 use Rattle.machine.specs.declared.transfer.Transfer.{Transfer}
 use Rattle.transfers.specs.Transfers.{Plan, begun, separatePlan, inPlacePlan}
-use Rattle.bus.specs.declared.board.Board.{Board}
+use Rattle.agreement.specs.declared.board.Board.{Board}
 
 -- a board with its buffers at fresh; in place, the read buffer is both
 pub record Start : Type 0 where

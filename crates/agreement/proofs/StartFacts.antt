@@ -25,10 +25,10 @@ use Rattle.machine.specs.declared.flush.Flush.the-variants.{Status}
 use Rattle.sequences.specs.Driver.{driverCommand}
 use Rattle.machine.specs.Transfer.{startTransfer, endedTransfer}
 use Rattle.transfers.specs.Transfers.{Plan, separatePlan, inPlacePlan}
-use Rattle.bus.specs.Start.{Start, elementBits, plan, started, total, frameWords, accepted, unequal, unfit, job}
-use Rattle.bus.specs.End.{freshWire, freshRegisters, end, freshEnd}
-use Rattle.bus.specs.Tally.{nothing}
-use Rattle.bus.proofs.EndFacts.{Keeps, own, Good, fresh-core, fresh-base}
+use Rattle.agreement.specs.Start.{Start, elementBits, plan, started, total, frameWords, accepted, unequal, unfit, job}
+use Rattle.agreement.specs.End.{freshWire, freshRegisters, end, freshEnd}
+use Rattle.agreement.specs.Tally.{nothing}
+use Rattle.agreement.proofs.EndFacts.{Keeps, own, Good, fresh-core, fresh-base}
 
 -- SEPARATE AND IN PLACE: a fact of a plan, by the kind of transfer
 by-kind : {A : Type 0} (P : A → Type 0) (b : Bool) (x y : A) → P x → P y → P (cond b x y)

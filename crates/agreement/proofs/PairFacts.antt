@@ -6,16 +6,16 @@ use mathlib.Core.List.{List, [], _∷_}
 use mathlib.Core.Path.{_≡_, refl, ap, subst}
 use native.Mathlib.Omega.{arith}
 use lib.ListN.{length}
-use Rattle.bus.specs.declared.event.Event.{Event}
-use Rattle.bus.specs.declared.event.Event.the-variants.{Step, Clock, Noise}
-use Rattle.bus.specs.declared.event.Side.the-variants.{Gate, Antenna}
-use Rattle.bus.specs.Start.{Job}
-use Rattle.bus.specs.End.{full, End, stepped}
-use Rattle.bus.specs.Events.{Pair, pair, clockedBy, happened, after}
-use Rattle.bus.specs.Tally.{Tally, noted, waiting, gateNotes, antennaNotes, tallied}
-use Rattle.bus.proofs.WordLists.{from, uncons}
-use Rattle.bus.proofs.EndFacts.{Keeps, own, Good, keep-step, no-overrun}
-use Rattle.bus.proofs.WireFacts.{good-noise, good-sent, good-made-up, good-arrived}
+use Rattle.agreement.specs.declared.event.Event.{Event}
+use Rattle.agreement.specs.declared.event.Event.the-variants.{Step, Clock, Noise}
+use Rattle.agreement.specs.declared.event.Side.the-variants.{Gate, Antenna}
+use Rattle.agreement.specs.Start.{Job}
+use Rattle.agreement.specs.End.{full, End, stepped}
+use Rattle.agreement.specs.Events.{Pair, pair, clockedBy, happened, after}
+use Rattle.agreement.specs.Tally.{Tally, noted, waiting, gateNotes, antennaNotes, tallied}
+use Rattle.agreement.proofs.WordLists.{from, uncons}
+use Rattle.agreement.proofs.EndFacts.{Keeps, own, Good, keep-step, no-overrun}
+use Rattle.agreement.proofs.WireFacts.{good-noise, good-sent, good-made-up, good-arrived}
 
 module _ (n : ℕ) (accepts : Bool) (jg ja : Job) (small-g : jg .exponent ≤ 4) (small-a : ja .exponent ≤ 4) (keeps-g : Keeps jg) (keeps-a : Keeps ja) where
   abbrev GoodGate : ℕ → ℕ → ℕ → Tally → End → Type 0

@@ -24,9 +24,9 @@ use Rattle.machine.specs.declared.transfer.Transfer.{Transfer}
 use Rattle.machine.specs.Flush.{flushAccess, flushed}
 use Rattle.machine.specs.Transfer.{dueAccess, resumed}
 use Rattle.runs.specs.Run.{ended, answerOf, receivedAfter}
-use Rattle.bus.specs.declared.register.Role.{Role}
-use Rattle.bus.specs.declared.register.Role.the-variants.{Sizes as sizes, Status as status, Counts as counts, Control as control, Sends as sends, Receives as receives, Holds as holds}
-use Rattle.bus.specs.Start.{Start, Job, transferOf}
+use Rattle.agreement.specs.declared.register.Role.{Role}
+use Rattle.agreement.specs.declared.register.Role.the-variants.{Sizes as sizes, Status as status, Counts as counts, Control as control, Sends as sends, Receives as receives, Holds as holds}
+use Rattle.agreement.specs.Start.{Start, Job, transferOf}
 
 -- QUEUES AND FLAGS
 

@@ -31,14 +31,14 @@ use Rattle.runs.proofs.Places.{done-phase}
 use Rattle.runs.proofs.RunLaws.{run-add, run-last}
 use Rattle.runs.proofs.RunUnlimited.{unlimited-run}
 use Rattle.runs.proofs.RunDepends.{run-longer}
-use Rattle.bus.specs.declared.event.Event.{Event}
-use Rattle.bus.specs.declared.event.Event.the-variants.{Step, Clock, Noise}
-use Rattle.bus.specs.declared.event.Side.{Side}
-use Rattle.bus.specs.declared.event.Side.the-variants.{Gate, Antenna}
-use Rattle.bus.specs.Start.{Start, Job, job, transferOf}
-use Rattle.bus.specs.End.{Wire, End, end, firstDue, endAccess, freshEnd, stepped}
-use Rattle.bus.specs.Events.{Pair, atSide, clockedBy, happened, after, freshPair}
-use Rattle.bus.specs.Course.{entry, accessed, heardBy, logOf, answerIn, answersIn, Makes, Course, startAt, CourseOf}
+use Rattle.agreement.specs.declared.event.Event.{Event}
+use Rattle.agreement.specs.declared.event.Event.the-variants.{Step, Clock, Noise}
+use Rattle.agreement.specs.declared.event.Side.{Side}
+use Rattle.agreement.specs.declared.event.Side.the-variants.{Gate, Antenna}
+use Rattle.agreement.specs.Start.{Start, Job, job, transferOf}
+use Rattle.agreement.specs.End.{Wire, End, end, firstDue, endAccess, freshEnd, stepped}
+use Rattle.agreement.specs.Events.{Pair, atSide, clockedBy, happened, after, freshPair}
+use Rattle.agreement.specs.Course.{entry, accessed, heardBy, logOf, answerIn, answersIn, Makes, Course, startAt, CourseOf}
 
 -- THE ANSWERS IN A LOG
 

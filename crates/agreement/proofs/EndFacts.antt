@@ -41,15 +41,15 @@ use Rattle.sequences.specs.Recovery.{recoveryAccess, recoveryAfter, recovered}
 use Rattle.machine.specs.Transfer.{at, sendTurn, receiveTurn, oneSent, oneReceived, counted, spaceBy, sendingBy, receivingBy, dueAccess, resumed}
 use Rattle.runs.specs.Run.{answerOf, receivedAfter, ended}
 use Rattle.runs.proofs.Places.{counted-up, done-phase}
-use Rattle.bus.specs.declared.register.Role.{Role}
-use Rattle.bus.specs.declared.register.Role.the-variants.{Sizes as sizes, Status as status, Counts as counts, Control as control, Sends as sends, Receives as receives, Holds as holds}
-use Rattle.bus.specs.Start.{Job}
-use Rattle.bus.specs.End.{Wire, queues, lowered, full, front, behind, emptiedIf, roleOf, placeOf, shows, readBy, writtenBy, answerTo, wireAfter, freshWire, End, end, firstDue, endAccess, stepped}
-use Rattle.bus.specs.Tally.{Tally, nothing, overrun, overrunBy}
-use Rattle.bus.specs.Agreement.{OkTwice, Emptied, seen}
-use Rattle.bus.proofs.ShownLaws.{shows-t, shows-r, shows-exponent, shows-transmit, shows-receive, below-capacity, capacity-small}
-use Rattle.bus.proofs.WordLists.{from, length-snoc, snoc-is, uncons, length-behind, emptied-less, emptied-is, lowered-set, false-true, nil-of, all-from}
-use Rattle.bus.proofs.RecoveryFacts.{silent, Quiet, recovery-quiet}
+use Rattle.agreement.specs.declared.register.Role.{Role}
+use Rattle.agreement.specs.declared.register.Role.the-variants.{Sizes as sizes, Status as status, Counts as counts, Control as control, Sends as sends, Receives as receives, Holds as holds}
+use Rattle.agreement.specs.Start.{Job}
+use Rattle.agreement.specs.End.{Wire, queues, lowered, full, front, behind, emptiedIf, roleOf, placeOf, shows, readBy, writtenBy, answerTo, wireAfter, freshWire, End, end, firstDue, endAccess, stepped}
+use Rattle.agreement.specs.Tally.{Tally, nothing, overrun, overrunBy}
+use Rattle.agreement.specs.Agreement.{OkTwice, Emptied, seen}
+use Rattle.agreement.proofs.ShownLaws.{shows-t, shows-r, shows-exponent, shows-transmit, shows-receive, below-capacity, capacity-small}
+use Rattle.agreement.proofs.WordLists.{from, length-snoc, snoc-is, uncons, length-behind, emptied-less, emptied-is, lowered-set, false-true, nil-of, all-from}
+use Rattle.agreement.proofs.RecoveryFacts.{silent, Quiet, recovery-quiet}
 
 -- the word at a place is that of the start while fewer words were received
 abbrev pub Keeps : Job → Type 0

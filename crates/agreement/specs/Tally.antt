@@ -7,15 +7,15 @@ use mathlib.Core.List.{List, [], _∷_}
 use Rattle.manual.specs.declared.Register.the-variants.{TDR}
 use Rattle.sequences.specs.declared.access.Access.{Access}
 use Rattle.sequences.specs.declared.access.Access.the-variants.{Read, Write, Send, Receive, Done}
-use Rattle.bus.specs.declared.event.Event.{Event}
-use Rattle.bus.specs.declared.event.Event.the-variants.{Step, Clock, Noise}
-use Rattle.bus.specs.declared.event.Side.{Side}
-use Rattle.bus.specs.declared.event.Side.the-variants.{Gate, Antenna}
-use Rattle.bus.specs.declared.register.Role.{Role}
-use Rattle.bus.specs.declared.register.Role.the-variants.{Sizes as sizes, Status as status, Counts as counts, Control as control, Sends as sends, Receives as receives, Holds as holds}
-use Rattle.bus.specs.Start.{Start, Job, job}
-use Rattle.bus.specs.End.{Wire, End, roleOf, full, endAccess}
-use Rattle.bus.specs.Events.{Pair, happened, freshPair}
+use Rattle.agreement.specs.declared.event.Event.{Event}
+use Rattle.agreement.specs.declared.event.Event.the-variants.{Step, Clock, Noise}
+use Rattle.agreement.specs.declared.event.Side.{Side}
+use Rattle.agreement.specs.declared.event.Side.the-variants.{Gate, Antenna}
+use Rattle.agreement.specs.declared.register.Role.{Role}
+use Rattle.agreement.specs.declared.register.Role.the-variants.{Sizes as sizes, Status as status, Counts as counts, Control as control, Sends as sends, Receives as receives, Holds as holds}
+use Rattle.agreement.specs.Start.{Start, Job, job}
+use Rattle.agreement.specs.End.{Wire, End, roleOf, full, endAccess}
+use Rattle.agreement.specs.Events.{Pair, happened, freshPair}
 
 -- words lost, words made up, and times that a flag was set
 pub record Tally : Type 0 where

@@ -8,7 +8,7 @@ use native.Mathlib.Nat.{add-zero, add-suc, suc-add, zero-add}
 use native.Mathlib.Omega.{arith}
 use lib.ListN.{length, length-append}
 use Rattle.words.specs.Buffer.{tabulate}
-use Rattle.bus.specs.End.{behind, emptiedIf}
+use Rattle.agreement.specs.End.{behind, emptiedIf}
 
 -- f a, f (a + 1), .., k of them
 abbrev pub from : (ℕ → ℕ) → ℕ → ℕ → List ℕ

@@ -9,12 +9,12 @@ use lib.ListN.{length}
 use borrow.Author.Tests.{leb-false}
 use Rattle.words.specs.declared.transaction.Direction.{Direction}
 use Rattle.words.specs.declared.transaction.Direction.the-variants.{Tx, Rx}
-use Rattle.bus.specs.Start.{Job}
-use Rattle.bus.specs.End.{Wire, queues, raised, full, arrived, End, end}
-use Rattle.bus.specs.Events.{rewired}
-use Rattle.bus.specs.Tally.{Tally, noted}
-use Rattle.bus.proofs.WordLists.{from, length-snoc, snoc-is, uncons}
-use Rattle.bus.proofs.EndFacts.{own, Core, Now, Base, Good, now-stays}
+use Rattle.agreement.specs.Start.{Job}
+use Rattle.agreement.specs.End.{Wire, queues, raised, full, arrived, End, end}
+use Rattle.agreement.specs.Events.{rewired}
+use Rattle.agreement.specs.Tally.{Tally, noted}
+use Rattle.agreement.proofs.WordLists.{from, length-snoc, snoc-is, uncons}
+use Rattle.agreement.proofs.EndFacts.{own, Core, Now, Base, Good, now-stays}
 
 module _ (n : ℕ) (accepts : Bool) (j : Job) (other : ℕ → ℕ) (c m : ℕ) (τ : Tally) (x : End) where
   abbrev G : ℕ → ℕ → ℕ → Tally → End → Type 0

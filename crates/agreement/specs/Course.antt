@@ -13,13 +13,13 @@ use Rattle.machine.specs.declared.transfer.Transfer.{Transfer}
 use Rattle.machine.specs.Flush.{flushAccess, flushed}
 use Rattle.machine.specs.Transfer.{dueAccess, resumed}
 use Rattle.runs.specs.Run.{Logged, writeMark, codeOf, valueOf, ended, start, run, noWords}
-use Rattle.bus.specs.declared.event.Event.{Event}
-use Rattle.bus.specs.declared.event.Event.the-variants.{Step, Clock, Noise}
-use Rattle.bus.specs.declared.event.Side.{Side}
-use Rattle.bus.specs.declared.event.Side.the-variants.{Gate, Antenna}
-use Rattle.bus.specs.Start.{Start, Job, job, transferOf}
-use Rattle.bus.specs.End.{End, answerTo, endAccess}
-use Rattle.bus.specs.Events.{Pair, atSide, happened, freshPair, pairAfter}
+use Rattle.agreement.specs.declared.event.Event.{Event}
+use Rattle.agreement.specs.declared.event.Event.the-variants.{Step, Clock, Noise}
+use Rattle.agreement.specs.declared.event.Side.{Side}
+use Rattle.agreement.specs.declared.event.Side.the-variants.{Gate, Antenna}
+use Rattle.agreement.specs.Start.{Start, Job, job, transferOf}
+use Rattle.agreement.specs.End.{End, answerTo, endAccess}
+use Rattle.agreement.specs.Events.{Pair, atSide, happened, freshPair, pairAfter}
 
 -- ACCESSES
 

@@ -5,9 +5,9 @@ use mathlib.Core.Bool.{true, false, cond}
 use mathlib.Core.List.{List, [], _∷_}
 use lib.Dec.{eqb}
 use Rattle.words.specs.declared.transaction.Direction.the-variants.{Tx, Rx}
-use Rattle.bus.specs.declared.event.Event.{Event}
-use Rattle.bus.specs.declared.event.Event.the-variants.{Step, Clock, Noise}
-use Rattle.bus.specs.declared.event.Side.the-variants.{Gate, Antenna}
+use Rattle.agreement.specs.declared.event.Event.{Event}
+use Rattle.agreement.specs.declared.event.Event.the-variants.{Step, Clock, Noise}
+use Rattle.agreement.specs.declared.event.Side.the-variants.{Gate, Antenna}
 
 -- 0 and 1 a step of the gate, 2 and 3 of the antenna, not busy and busy; 4 a clock; 5 and 6 noise at the gate, T and R; 7 and 8 at the antenna
 abbrev pub eventOf : ℕ → Event

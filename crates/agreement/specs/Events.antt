@@ -3,12 +3,12 @@
 use Prim.Native.Nat.{ℕ}
 use mathlib.Core.List.{List, [], _∷_}
 use Rattle.words.specs.declared.transaction.Direction.the-variants.{Tx}
-use Rattle.bus.specs.declared.event.Event.{Event}
-use Rattle.bus.specs.declared.event.Event.the-variants.{Step, Clock, Noise}
-use Rattle.bus.specs.declared.event.Side.{Side}
-use Rattle.bus.specs.declared.event.Side.the-variants.{Gate, Antenna}
-use Rattle.bus.specs.Start.{Start, Job, job}
-use Rattle.bus.specs.End.{Wire, queues, raised, arrived, End, end, freshEnd, stepped}
+use Rattle.agreement.specs.declared.event.Event.{Event}
+use Rattle.agreement.specs.declared.event.Event.the-variants.{Step, Clock, Noise}
+use Rattle.agreement.specs.declared.event.Side.{Side}
+use Rattle.agreement.specs.declared.event.Side.the-variants.{Gate, Antenna}
+use Rattle.agreement.specs.Start.{Start, Job, job}
+use Rattle.agreement.specs.End.{Wire, queues, raised, arrived, End, end, freshEnd, stepped}
 
 -- two ends: the gate clocks, the antenna replies
 pub record Pair : Type 0 where

@@ -13,13 +13,13 @@ use Rattle.machine.specs.declared.flush.Flush.{Flush}
 use Rattle.machine.specs.declared.transfer.Transfer.{Transfer}
 use Rattle.machine.specs.Flush.{flushAccess}
 use Rattle.machine.specs.Transfer.{dueAccess}
-use Rattle.bus.specs.declared.event.Event.{Event}
-use Rattle.bus.specs.declared.event.Event.the-variants.{Step, Clock, Noise}
-use Rattle.bus.specs.declared.event.Side.the-variants.{Gate, Antenna}
-use Rattle.bus.specs.Start.{Start, elementBits, total, started, accepted}
-use Rattle.bus.specs.End.{Wire, End}
-use Rattle.bus.specs.Events.{pairAfter}
-use Rattle.bus.specs.Tally.{tally}
+use Rattle.agreement.specs.declared.event.Event.{Event}
+use Rattle.agreement.specs.declared.event.Event.the-variants.{Step, Clock, Noise}
+use Rattle.agreement.specs.declared.event.Side.the-variants.{Gate, Antenna}
+use Rattle.agreement.specs.Start.{Start, elementBits, total, started, accepted}
+use Rattle.agreement.specs.End.{Wire, End}
+use Rattle.agreement.specs.Events.{pairAfter}
+use Rattle.agreement.specs.Tally.{tally}
 
 -- what can be seen of an end: all but the words received, which its read buffer shows
 pub record Seen : Type 0 where

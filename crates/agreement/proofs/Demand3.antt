@@ -15,17 +15,17 @@ use Rattle.words.proofs.WordLaws.{Elements}
 use Rattle.words.proofs.BufferLaws.{tabulate-same}
 use Rattle.sequences.specs.declared.access.Access.the-variants.{Send, Receive}
 use Rattle.machine.specs.Transfer.{dueAccess}
-use Rattle.bus.specs.declared.event.Event.{Event}
-use Rattle.bus.specs.declared.event.Side.the-variants.{Gate, Antenna}
-use Rattle.bus.specs.Start.{Start, elementBits, started, total, frameWords, accepted, unfit, Job, job}
-use Rattle.bus.specs.End.{End}
-use Rattle.bus.specs.Events.{Pair, happened, after, freshPair, pairAfter}
-use Rattle.bus.specs.Tally.{nothing, tally}
-use Rattle.bus.specs.Agreement.{OkTwice, bufferOf, Holds, Finish, Agreement, seen}
-use Rattle.bus.proofs.EndFacts.{own, ok-unhurt, ok-empty, ok-received, receives-below, sends-below}
-use Rattle.bus.proofs.PairFacts.{Both, both-after}
-use Rattle.bus.proofs.FinishFacts.{finish}
-use Rattle.bus.proofs.StartFacts.{read-within, own-words, keeps, good-fresh, laid-words, Fit, fit}
+use Rattle.agreement.specs.declared.event.Event.{Event}
+use Rattle.agreement.specs.declared.event.Side.the-variants.{Gate, Antenna}
+use Rattle.agreement.specs.Start.{Start, elementBits, started, total, frameWords, accepted, unfit, Job, job}
+use Rattle.agreement.specs.End.{End}
+use Rattle.agreement.specs.Events.{Pair, happened, after, freshPair, pairAfter}
+use Rattle.agreement.specs.Tally.{nothing, tally}
+use Rattle.agreement.specs.Agreement.{OkTwice, bufferOf, Holds, Finish, Agreement, seen}
+use Rattle.agreement.proofs.EndFacts.{own, ok-unhurt, ok-empty, ok-received, receives-below, sends-below}
+use Rattle.agreement.proofs.PairFacts.{Both, both-after}
+use Rattle.agreement.proofs.FinishFacts.{finish}
+use Rattle.agreement.proofs.StartFacts.{read-within, own-words, keeps, good-fresh, laid-words, Fit, fit}
 
 -- a list of events, and then more
 after-more : (j k : Job) (p : Pair) (vs ws : List Event) → after j k p (vs ++ ws) ≡ after j k (after j k p vs) ws

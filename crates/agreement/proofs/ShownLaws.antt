@@ -14,8 +14,8 @@ use Rattle.manual.specs.declared.Param.the-variants.{TXFIFO, RXFIFO}
 use Rattle.manual.specs.declared.Sr.the-variants.{TEF, REF, MBF}
 use Rattle.manual.specs.Manual.{readField}
 use Rattle.manual.proofs.ManualLaws.{read-all}
-use Rattle.bus.specs.declared.register.Role.the-variants.{Sizes as sizes, Status as status, Counts as counts}
-use Rattle.bus.specs.End.{Wire, showsBy}
+use Rattle.agreement.specs.declared.register.Role.the-variants.{Sizes as sizes, Status as status, Counts as counts}
+use Rattle.agreement.specs.End.{Wire, showsBy}
 
 module _ (e : ℕ) (busy : Bool) (w : Wire) where
   -- the transmit error flag is T, the receive error flag R, the busy flag what the step has

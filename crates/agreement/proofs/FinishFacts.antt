@@ -7,19 +7,19 @@ use mathlib.Core.Path.{_≡_, refl}
 use native.Mathlib.Omega.{arith}
 use lib.ListN.{length}
 use borrow.Author.Tests.{lt-leb}
-use Rattle.bus.specs.declared.event.Event.{Event}
-use Rattle.bus.specs.declared.event.Event.the-variants.{Step, Clock}
-use Rattle.bus.specs.declared.event.Side.{Side}
-use Rattle.bus.specs.declared.event.Side.the-variants.{Gate, Antenna}
-use Rattle.bus.specs.Start.{Job}
-use Rattle.bus.specs.End.{full, End, stepped}
-use Rattle.bus.specs.Events.{Pair, pair, clockedBy, happened, after}
-use Rattle.bus.specs.Tally.{Tally}
-use Rattle.bus.specs.Agreement.{OkTwice, Plain, seen}
-use Rattle.bus.proofs.ShownLaws.{below-capacity}
-use Rattle.bus.proofs.EndFacts.{Keeps, own, ok-facts}
-use Rattle.bus.proofs.PairFacts.{Both, both-gate-step, both-antenna-step, both-clocked}
-use Rattle.bus.proofs.SettleFacts.{steps, Settled, over, waits, Leads, leads}
+use Rattle.agreement.specs.declared.event.Event.{Event}
+use Rattle.agreement.specs.declared.event.Event.the-variants.{Step, Clock}
+use Rattle.agreement.specs.declared.event.Side.{Side}
+use Rattle.agreement.specs.declared.event.Side.the-variants.{Gate, Antenna}
+use Rattle.agreement.specs.Start.{Job}
+use Rattle.agreement.specs.End.{full, End, stepped}
+use Rattle.agreement.specs.Events.{Pair, pair, clockedBy, happened, after}
+use Rattle.agreement.specs.Tally.{Tally}
+use Rattle.agreement.specs.Agreement.{OkTwice, Plain, seen}
+use Rattle.agreement.proofs.ShownLaws.{below-capacity}
+use Rattle.agreement.proofs.EndFacts.{Keeps, own, ok-facts}
+use Rattle.agreement.proofs.PairFacts.{Both, both-gate-step, both-antenna-step, both-clocked}
+use Rattle.agreement.proofs.SettleFacts.{steps, Settled, over, waits, Leads, leads}
 
 -- some steps and clocks bring both to Ok twice
 pub record Finishes (jg ja : Job) (p : Pair) : Type 0 where

@@ -17,9 +17,9 @@ use Rattle.sequences.specs.declared.sequence.Sequence.{Sequence}
 use Rattle.sequences.specs.Recovery.{recovery, recoveryMove, recoveryAccess}
 use Rattle.sequences.specs.Sequence.{moveAccess, changeRegister}
 use Rattle.sequences.specs.Status.{cleared, errors}
-use Rattle.bus.specs.declared.register.Role.{Role}
-use Rattle.bus.specs.declared.register.Role.the-variants.{Sizes as sizes, Status as status, Counts as counts, Control as control, Sends as sends, Receives as receives, Holds as holds}
-use Rattle.bus.specs.End.{roleOf}
+use Rattle.agreement.specs.declared.register.Role.{Role}
+use Rattle.agreement.specs.declared.register.Role.the-variants.{Sizes as sizes, Status as status, Counts as counts, Control as control, Sends as sends, Receives as receives, Holds as holds}
+use Rattle.agreement.specs.End.{roleOf}
 
 -- a write to a register of that role sends nothing
 abbrev pub silent : Role → Bool

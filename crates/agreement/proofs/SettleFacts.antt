@@ -26,13 +26,13 @@ use Rattle.machine.specs.declared.transfer.Stage.the-variants.{Space, Command, 
 use Rattle.machine.specs.declared.transfer.Work.{Work}
 use Rattle.machine.specs.Transfer.{at, sendTurn, receiveTurn, counted, oneSent, oneReceived, dueAccess, resumed}
 use Rattle.runs.proofs.Places.{counted-up}
-use Rattle.bus.specs.Start.{Job}
-use Rattle.bus.specs.End.{Wire, queues, front, behind, placeOf, shows, registersAfter, End, end, stepped}
-use Rattle.bus.specs.Tally.{Tally}
-use Rattle.bus.specs.Agreement.{OkTwice, seen}
-use Rattle.bus.proofs.ShownLaws.{shows-t, shows-r, shows-busy, shows-exponent, below-capacity}
-use Rattle.bus.proofs.WordLists.{length-snoc, length-behind}
-use Rattle.bus.proofs.EndFacts.{Keeps, Core, Now, NowFlush, Base, shown-transmit, shown-receive, pushed, core-send, base-send, core-receive, base-receive}
+use Rattle.agreement.specs.Start.{Job}
+use Rattle.agreement.specs.End.{Wire, queues, front, behind, placeOf, shows, registersAfter, End, end, stepped}
+use Rattle.agreement.specs.Tally.{Tally}
+use Rattle.agreement.specs.Agreement.{OkTwice, seen}
+use Rattle.agreement.proofs.ShownLaws.{shows-t, shows-r, shows-busy, shows-exponent, below-capacity}
+use Rattle.agreement.proofs.WordLists.{length-snoc, length-behind}
+use Rattle.agreement.proofs.EndFacts.{Keeps, Core, Now, NowFlush, Base, shown-transmit, shown-receive, pushed, core-send, base-send, core-receive, base-receive}
 
 -- steps of one end alone, never busy
 unfoldable pub steps : Job → ℕ → End → End
