@@ -41,6 +41,8 @@ def copy(tree):
 
 def first_error(log):
     # of a function without a proof file the prover says where it stands in a note
+    if not os.path.isfile(log):
+        return 'no log'
     text = open(log, encoding='utf-8').read().replace(os.path.dirname(log) + '/', '')
     found = re.search(r'^.*: error.*$', text, re.MULTILINE) or re.search(r'^note: \S+:\d+:\d+:.*$', text, re.MULTILINE)
     return found.group() if found else 'no error in its log'
@@ -59,8 +61,8 @@ def all_refused(crate, paths, tree):
         said = re.search(rf'^rt: must-fail {crate}/{name}: (.*)$', run.stdout, re.MULTILINE)
         verdict = said.group(1) if said else 'NOT TRIED: ' + run.stdout.strip().split('\n')[-1]
         if verdict.startswith('refused'):
-            seconds = re.search(r'(\d+) s\)$', verdict).group(1)
-            verdict = f'refused, {seconds} s: ' + first_error(f'{tree}/target/must-fail/{crate}/{name}/.log')
+            took = re.search(r'\d+ s(?=\)$)', verdict)
+            verdict = f'refused, {took.group() if took else "no time"}: ' + first_error(f'{tree}/target/must-fail/{crate}/{name}/.log')
         else:
             good = False
         print(f'{crate}/{name}: {verdict[:300]}', flush=True)

@@ -15,6 +15,9 @@ const LONGEST: usize = 262_144;
 const CALL: &str = "new 8\n";
 const PRINTED: &str = "00000007\n";
 
+/// The lists of a line.
+const LISTS: [&str; 7] = ["driver", "budget", "log", "raw", "read", "write", "script"];
+
 fn program(arguments: &[&str], input: &[u8]) -> Vec<u8> {
     common::program::program("lpspi", arguments, input, usize::MAX)
 }
@@ -46,30 +49,41 @@ fn names() -> Vec<String> {
     names.collect()
 }
 
-/// Every call stands in docs/CALLS.md, and in the examples.
+/// The calls that the tables of docs/CALLS.md have in their first column; behind a
+/// name other widths stand as ends of it.
+fn documented(page: &str) -> Vec<String> {
+    let mut names: Vec<String> = vec![];
+    for row in page.lines().filter(|line| line.starts_with("| `")) {
+        let cell = row.split('|').nth(1).expect("a cell");
+        for name in cell.split('`').skip(1).step_by(2) {
+            let stem = match (name.starts_with('_'), names.last()) {
+                (true, Some(last)) => last.rsplit_once("_u").expect("a width").0.to_owned(),
+                _ => String::new(),
+            };
+            names.push(stem + name);
+        }
+    }
+    names
+}
+
+/// The calls of docs/CALLS.md are those that there are, and each is in the examples.
 #[test]
 fn every_call_is_documented() {
     let repository = Path::new(env!("CARGO_MANIFEST_DIR")).join("..");
     let read = |path: &str| fs::read_to_string(repository.join(path)).expect("a file");
-    let (page, examples) = (read("docs/CALLS.md"), read("crates/lpspi/stdin"));
-    let names = names();
+    let mut names = names();
     assert!(names.len() >= 50, "only {} names", names.len());
-    for name in names {
-        let bits = name.trim_end_matches('s').rsplit_once("_u");
-        let documented = match bits.filter(|(_, bits)| ["8", "16", "32"].contains(bits)) {
-            None => page.contains(&format!("`{name}`")),
-            Some((stem, "8")) => page.contains(&format!("`{stem}_u8")),
-            Some((stem, bits)) => page.lines().any(|line| {
-                line.contains(&format!("`{stem}_u8")) && line.contains(&format!("`_u{bits}"))
-            }),
-        };
-        assert!(documented, "{name} is not in docs/CALLS.md");
-        let called = |line: &str| line.split(' ').next() == Some(&name);
-        assert!(
-            examples.lines().any(called),
-            "{name} is not in the examples"
-        );
+    let examples = read("crates/lpspi/stdin");
+    for name in &names {
+        let called = |line: &str| line.split(' ').next() == Some(name);
+        let count = examples.lines().filter(|line| called(line)).count();
+        assert!(count > 0, "{name} is not in the examples");
     }
+    names.extend(LISTS.map(str::to_owned));
+    names.sort();
+    let mut documented = documented(&read("docs/CALLS.md"));
+    documented.sort();
+    assert_eq!(documented, names);
 }
 
 /// A bad line prints its number, and those around it are taken.
@@ -210,44 +224,48 @@ fn arguments_are_not_read() {
     assert_eq!(printed, PRINTED.as_bytes());
 }
 
-/// Random bytes, and words of the grammar in random order: each line prints something
-/// of its own, and the program ends.
+/// The places of bad lines, by what is printed.
+fn bad_places(printed: &[u8]) -> Vec<usize> {
+    let printed = String::from_utf8_lossy(printed);
+    let bad = printed.lines().filter_map(|line| line.strip_prefix("bad "));
+    bad.map(|place| place.parse().expect("a number")).collect()
+}
+
+/// Random bytes, and words of the grammar in random order: the bad lines are named in
+/// their order, each is bad without the others, and the others are not.
 #[test]
 #[cfg_attr(not(lpspi), ignore = "the program is missing")]
 fn garbage() {
     let mut random = Random::fixed("lpspi: garbage");
-    let mut bytes = random.bytes(LONGEST - 1);
-    bytes.retain(|byte| *byte != b'#');
     let mut words: Vec<String> = names();
-    let lists = ["driver", "budget", "log", "raw", "read", "write", "script"];
     let numbers = ["M", "L", "Tx", "on", "0", "1", "3", "ff", "0x100", "8000"];
-    words.extend(lists.into_iter().chain(numbers).map(str::to_owned));
-    let mut lines = String::new();
-    while lines.len() < LONGEST - 400 {
-        for _ in 0..1 + random.below(9) {
-            lines += &words[random.below(words.len())];
-            lines.push(' ');
+    let others = LISTS
+        .into_iter()
+        .filter(|list| *list != "raw")
+        .chain(numbers);
+    words.extend(others.map(str::to_owned));
+    let mut text = vec![];
+    while text.len() < LONGEST - 400 {
+        for _ in 0..1 + random.below(5) {
+            text.extend(words[random.below(words.len())].bytes());
+            text.push(b' ');
         }
-        lines.push('\n');
+        text.push(b'\n');
     }
-    for input in [&bytes[..], lines.as_bytes()] {
-        let text = String::from_utf8_lossy(input).into_owned();
-        let printed = program(&[], input);
-        let printed = String::from_utf8_lossy(&printed);
-        let bad: Vec<_> = printed
-            .lines()
-            .filter(|line| line.starts_with("bad "))
-            .collect();
-        assert!(!bad.is_empty());
-        // Bad lines are named in their order, and only lines that are there.
-        let places: Vec<usize> = bad
-            .iter()
-            .map(|line| line[4..].parse().expect("a number"))
-            .collect();
-        assert!(places.is_sorted_by(|a, b| a < b));
-        assert!(places
-            .last()
-            .is_some_and(|last| *last <= text.lines().count() + 1));
+    for input in [random.bytes(LONGEST), text] {
+        let bad = bad_places(&program(&[], &input));
+        let lines: Vec<_> = input.split(|byte| *byte == b'\n').collect();
+        let of = |wanted: bool| {
+            let place = |place: usize| bad.binary_search(&place).is_ok() == wanted;
+            let lines = lines.iter().enumerate().filter(|(i, _)| place(i + 1));
+            lines.map(|(_, line)| *line).collect::<Vec<_>>()
+        };
+        let (good, bad_lines) = (of(false), of(true));
+        assert!(bad.len() > 500, "{} bad lines", bad.len());
+        assert_eq!(bad_lines.len(), bad.len());
+        let alone = bad_places(&program(&[], &bad_lines.join(&b'\n')));
+        assert_eq!(alone, (1..=bad.len()).collect::<Vec<_>>());
+        assert_eq!(bad_places(&program(&[], &good.join(&b'\n'))), []);
         random.cases.count();
     }
 }

@@ -1,4 +1,4 @@
--- Ok twice (bus `OkTwice`) is document 01's "answered 0" twice, as a host reads it: both numbers are 0.
+-- Ok twice (agreement `OkTwice`) is document 01's "answered 0" twice, as a host reads it: both numbers are 0.
 -- Assumes nothing.
 use mathlib.Core.Path.{_≡_, refl, ap}
 use native.Mathlib.Omega.{arith}

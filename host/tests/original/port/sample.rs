@@ -4,7 +4,7 @@
 //! Behind the line `MARK` of `crates/lpspi/stdin` each line has the inputs of a run, as
 //! docs/CALLS.md has them, and `crates/lpspi/stdout` what the original leaves. Both are
 //! made here, from a fixed seed and by the original alone: the port has no part in
-//! them. The test holds the files against the original; with `LPSPI_SAMPLE=write` it
+//! them. (Whether a FIFO is full is told by the original's counts, as its `is_full` does.) The test holds the files against the original; with `LPSPI_SAMPLE=write` it
 //! writes them.
 
 use super::calls::{Case, CALLS};
