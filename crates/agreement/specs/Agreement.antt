@@ -74,5 +74,6 @@ pub record Agreement (g a : Start) (events : List Event) (gate antenna : Seen) (
   pub gateTells : 0 < tally Gate g a events .lost + tally Gate g a events .madeUp → OkTwice gate → ⊥
   pub antennaTells : 0 < tally Antenna g a events .lost + tally Antenna g a events .madeUp → OkTwice antenna → ⊥
   -- (c) no event set a flag, the frame size is accepted, both FIFOs hold more than one word: both can still get there
-  pub finishes : tally Gate g a events .flags + tally Antenna g a events .flags ≡ 0 → accepted g ≡ true → 1 < 2 ^ (g .board .exponent) → 1 < 2 ^ (a .board .exponent)
+  pub finishes : tally Gate g a events .flags + tally Antenna g a events .flags ≡ 0 → accepted g ≡ true
+      → 1 < 2 ^ (g .board .exponent) → 1 < 2 ^ (a .board .exponent)
       → Finish g a events

@@ -9,7 +9,8 @@ use Rattle.agreement.specs.declared.event.Event.{Event}
 use Rattle.agreement.specs.declared.event.Event.the-variants.{Step, Clock, Noise}
 use Rattle.agreement.specs.declared.event.Side.the-variants.{Gate, Antenna}
 
--- 0 and 1 a step of the gate, 2 and 3 of the antenna, not busy and busy; 4 a clock; 5 and 6 noise at the gate, T and R; 7 and 8 at the antenna
+-- 0 and 1 a step of the gate, 2 and 3 of the antenna, not busy and busy; 4 a clock; 5 and 6 noise at the gate, T and R; 7 and 8 at the
+-- antenna
 abbrev pub eventOf : ℕ → Event
 eventOf byte =
     let n = byte % 9 in

@@ -1,5 +1,5 @@
--- The course of an end (document 01, The bus): its accesses over a list of events, each with its answer, and what it means that they are those
--- of its transfer's run and then of its flush's.
+-- The course of an end (document 01, The bus): its accesses over a list of events, each with its answer, and what it means that they are
+-- those of its transfer's run and then of its flush's.
 -- Assumes nothing.
 use Prim.Native.Nat.{ℕ, _<_}
 use mathlib.Core.Bool.{Bool, true, cond}
@@ -61,14 +61,15 @@ answersIn (l ∷ log) = answerIn l ++ answersIn log
 
 -- THE COURSE
 
--- the run of a machine from m, with the answers in `log` for its script, makes just the accesses of `log`, uses all the answers, and comes to m′,
--- having received the FIFO words rs. It may make as many accesses as the log has: nothing else limits it
+-- the run of a machine from m, with the answers in `log` for its script, makes just the accesses of `log`, uses all the answers, and
+-- comes to m′, having received the FIFO words rs. It may make as many accesses as the log has: nothing else limits it
 abbrev pub Makes : {M : Type 0} → (M → Access) → (M → ℕ → M) → (List ℕ → ℕ → ℕ) → M → List Logged → M → List ℕ → Type 0
 Makes next resume words m log m′ rs =
-    run next resume words (answersIn log) (length log) (start m) ≡ record { machine = m′; used = length (answersIn log); log = log; received = rs }
+    run next resume words (answersIn log) (length log) (start m)
+    ≡ record { machine = m′; used = length (answersIn log); log = log; received = rs }
 
--- "its next access, which is the one that the definitions of its transfer's run, and then of its flush's, make after the answers it has had, with
--- no limit on accesses". Of an end x that began with the transfer t, and the log of all its accesses
+-- "its next access, which is the one that the definitions of its transfer's run, and then of its flush's, make after the answers it has
+-- had, with no limit on accesses". Of an end x that began with the transfer t, and the log of all its accesses
 pub record Course (j : Job) (t : Transfer) (x : End) (log : List Logged) : Type 0 where
   pub transferLog : List Logged
   pub flushLog : List Logged

@@ -10,7 +10,8 @@ use Rattle.manual.specs.declared.Field.the-variants.{Cr, Sr, Fsr, Param}
 use Rattle.manual.specs.declared.Fsr.the-variants.{TXCOUNT, RXCOUNT}
 use Rattle.manual.specs.declared.Param.the-variants.{TXFIFO, RXFIFO}
 use Rattle.manual.specs.declared.Register.{Register}
-use Rattle.manual.specs.declared.Register.the-variants.{PARAM, CR, SR, IER, DER, CFGR0, CFGR1, DMR0, DMR1, CCR, FCR, FSR, TCR, TDR, RSR, RDR}
+use Rattle.manual.specs.declared.Register.the-variants.{PARAM, CR, SR, IER, DER, CFGR0, CFGR1, DMR0, DMR1}
+use Rattle.manual.specs.declared.Register.the-variants.{CCR, FCR, FSR, TCR, TDR, RSR, RDR}
 use Rattle.manual.specs.declared.Sr.the-variants.{TEF, REF, MBF}
 use Rattle.manual.specs.Manual.{offsetOf, readField, setAll}
 use Rattle.words.specs.declared.transaction.Direction.{Direction}
@@ -25,7 +26,9 @@ use Rattle.machine.specs.Flush.{flushAccess, flushed}
 use Rattle.machine.specs.Transfer.{dueAccess, resumed}
 use Rattle.runs.specs.Run.{ended, answerOf, receivedAfter}
 use Rattle.agreement.specs.declared.register.Role.{Role}
-use Rattle.agreement.specs.declared.register.Role.the-variants.{Sizes as sizes, Status as status, Counts as counts, Control as control, Sends as sends, Receives as receives, Holds as holds}
+use Rattle.agreement.specs.declared.register.Role.the-variants.{Sizes as sizes, Status as status, Counts as counts}
+use Rattle.agreement.specs.declared.register.Role.the-variants.{Control as control, Sends as sends}
+use Rattle.agreement.specs.declared.register.Role.the-variants.{Receives as receives, Holds as holds}
 use Rattle.agreement.specs.Start.{Start, Job, transferOf}
 
 -- QUEUES AND FLAGS
@@ -125,7 +128,8 @@ readBy sends w = w
 readBy receives w = queues (w .transmit) (behind (w .receive)) w
 readBy holds w = w
 
--- what a write does to queues and flags: writing 1 to bit 11 or 12 clears that flag; RTF, RRF empty their queue; RST empties both and clears flags
+-- what a write does to queues and flags: writing 1 to bit 11 or 12 clears that flag; RTF, RRF empty their queue; RST empties both and
+-- clears flags
 abbrev pub writtenBy : ℕ → Role → ℕ → Wire → Wire
 writtenBy e sizes v w = w
 writtenBy e status v w = lowered (eqb (readField (Sr TEF) v) 1) (eqb (readField (Sr REF) v) 1) w
@@ -133,7 +137,8 @@ writtenBy e counts v w = w
 writtenBy e control v w =
     let reset = eqb (readField (Cr RST) v) 1 in
     lowered reset reset
-    (queues (emptiedIf (reset || eqb (readField (Cr RTF) v) 1) (w .transmit)) (emptiedIf (reset || eqb (readField (Cr RRF) v) 1) (w .receive)) w)
+    (queues (emptiedIf (reset || eqb (readField (Cr RTF) v) 1) (w .transmit))
+    (emptiedIf (reset || eqb (readField (Cr RRF) v) 1) (w .receive)) w)
 writtenBy e sends v w = sentInto e v w
 writtenBy e receives v w = w
 writtenBy e holds v w = w

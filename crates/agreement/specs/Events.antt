@@ -29,12 +29,13 @@ abbrev pub rewired : (Wire → Wire) → End → End
 rewired f x = end (x .transfer) (x .flush) (x .received) (f (x .wire)) (x .registers)
 
 module _ (g a : Job) where
-  -- Clock: nothing if the gate's transmit queue is empty. Else its first word goes to the antenna; the antenna's first, or a made-up 0 with the
-  -- antenna's T set, goes to the gate. By the two transmit queues
+  -- Clock: nothing if the gate's transmit queue is empty. Else its first word goes to the antenna; the antenna's first, or a made-up 0
+  -- with the antenna's T set, goes to the gate. By the two transmit queues
   unfoldable pub clockedBy : List ℕ → List ℕ → Pair → Pair
   clockedBy [] theirs p = p
   clockedBy (v ∷ ours) [] p =
-      pair (rewired (λ w. arrived (g .exponent) 0 (queues ours (w .receive) w)) (p .gate)) (rewired (λ w. arrived (a .exponent) v (raised Tx w)) (p .antenna))
+      pair (rewired (λ w. arrived (g .exponent) 0 (queues ours (w .receive) w)) (p .gate))
+      (rewired (λ w. arrived (a .exponent) v (raised Tx w)) (p .antenna))
   clockedBy (v ∷ ours) (u ∷ theirs) p =
       pair (rewired (λ w. arrived (g .exponent) u (queues ours (w .receive) w)) (p .gate))
       (rewired (λ w. arrived (a .exponent) v (queues theirs (w .receive) w)) (p .antenna))

@@ -23,7 +23,9 @@ elementBits s = widthBits (s .board .width)
 
 -- its transfer's words and total length: a separate or an in-place exchange
 abbrev pub plan : Start → Plan
-plan s = cond (s .board .inplace) (inPlacePlan (elementBits s) (s .board .driver) (s .read)) (separatePlan (elementBits s) (s .board .driver) (s .read) (s .write))
+plan s =
+    cond (s .board .inplace) (inPlacePlan (elementBits s) (s .board .driver) (s .read))
+    (separatePlan (elementBits s) (s .board .driver) (s .read) (s .write))
 
 -- what an end started with
 abbrev pub started : Start → List ℕ

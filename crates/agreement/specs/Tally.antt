@@ -1,5 +1,5 @@
--- What a list of events did to an end (document 01, The bus): words lost and made up there, and flags set there. "Lost" and "made up" mean just the
--- cases that the bus marks. A lost or made-up word counts as setting its flag even if the flag was set already.
+-- What a list of events did to an end (document 01, The bus): words lost and made up there, and flags set there. "Lost" and "made up" mean
+-- just the cases that the bus marks. A lost or made-up word counts as setting its flag even if the flag was set already.
 -- Assumes nothing.
 use Prim.Native.Nat.{ℕ, suc}
 use mathlib.Core.Bool.{Bool, true, false, not, _&&_}
@@ -12,7 +12,9 @@ use Rattle.agreement.specs.declared.event.Event.the-variants.{Step, Cloc
 use Rattle.agreement.specs.declared.event.Side.{Side}
 use Rattle.agreement.specs.declared.event.Side.the-variants.{Gate, Antenna}
 use Rattle.agreement.specs.declared.register.Role.{Role}
-use Rattle.agreement.specs.declared.register.Role.the-variants.{Sizes as sizes, Status as status, Counts as counts, Control as control, Sends as sends, Receives as receives, Holds as holds}
+use Rattle.agreement.specs.declared.register.Role.the-variants.{Sizes as sizes, Status as status, Counts as counts}
+use Rattle.agreement.specs.declared.register.Role.the-variants.{Control as control, Sends as sends}
+use Rattle.agreement.specs.declared.register.Role.the-variants.{Receives as receives, Holds as holds}
 use Rattle.agreement.specs.Start.{Start, Job, job}
 use Rattle.agreement.specs.End.{Wire, End, roleOf, full, endAccess}
 use Rattle.agreement.specs.Events.{Pair, happened, freshPair}
@@ -34,7 +36,8 @@ up false n = n
 
 -- one event: was a word lost, was one made up, was there noise
 abbrev pub noted : Bool → Bool → Bool → Tally → Tally
-noted lost madeUp noise y = record { lost = up lost (y .lost); madeUp = up madeUp (y .madeUp); flags = up lost (up madeUp (up noise (y .flags))) }
+noted lost madeUp noise y =
+    record { lost = up lost (y .lost); madeUp = up madeUp (y .madeUp); flags = up lost (up madeUp (up noise (y .flags))) }
 
 -- a queue has a word to send
 abbrev pub waiting : List ℕ → Bool
@@ -64,7 +67,8 @@ abbrev pub stepOverruns : Job → End → Bool
 stepOverruns j x = overrun (j .exponent) (endAccess (x .transfer) (x .flush)) (x .wire)
 
 module _ (g a : Job) where
-  -- of one event, at the gate: a clock with a word to send loses the word that arrives at a full queue; the antenna makes one up where it has none
+  -- of one event, at the gate: a clock with a word to send loses the word that arrives at a full queue; the antenna makes one up where it
+  -- has none
   abbrev pub gateNotes : Pair → Event → Tally → Tally
   gateNotes p (Step Gate busy) y = noted (stepOverruns g (p .gate)) false false y
   gateNotes p (Step Antenna busy) y = y
@@ -77,7 +81,8 @@ module _ (g a : Job) where
   antennaNotes p (Step Gate busy) y = y
   antennaNotes p (Step Antenna busy) y = noted (stepOverruns a (p .antenna)) false false y
   antennaNotes p Clock y =
-      noted (waiting (p .gate .wire .transmit) && full (a .exponent) (p .antenna .wire .receive)) (waiting (p .gate .wire .transmit) && not (waiting (p .antenna .wire .transmit))) false y
+      noted (waiting (p .gate .wire .transmit) && full (a .exponent) (p .antenna .wire .receive))
+      (waiting (p .gate .wire .transmit) && not (waiting (p .antenna .wire .transmit))) false y
   antennaNotes p (Noise Gate d) y = y
   antennaNotes p (Noise Antenna d) y = noted false false true y
 

@@ -20,4 +20,6 @@ totalBy inplace read write = cond inplace read (max read write)
 abbrev pub begunBy : ℕ → Lpspi → ℕ → Transfer
 begunBy k d total =
     cond (eqb total 0) (endedTransfer d Ok)
-    (cond (frameAccepted (k * total)) (startTransfer d (commanded (driverCommand d) (k * total) .value) (wordCount k total) (wordCount k total)) (endedTransfer d (Err FrameSize)))
+    (cond (frameAccepted (k * total))
+    (startTransfer d (commanded (driverCommand d) (k * total) .value) (wordCount k total) (wordCount k total))
+    (endedTransfer d (Err FrameSize)))

@@ -88,7 +88,8 @@ pub record Linked (g a : Start) (gl al : Link) (gateSend antennaSend : List ℕ)
   pub antenna : LinkOf a al antennaSend antennaPlaces
 
 -- boards that fit, ready for their exchange
-pub record Ready (g a : Board) (gateTotal antennaTotal : ℕ) (ends : Stations) (gateReads gateWrites antennaReads antennaWrites : Slices) (gateRegisters antennaRegisters : List ℕ) : Type 0 where
+pub record Ready (g a : Board) (gateTotal antennaTotal : ℕ) (ends : Stations)
+    (gateReads gateWrites antennaReads antennaWrites : Slices) (gateRegisters antennaRegisters : List ℕ) : Type 0 where
   pub gate : gateTotal ≡ total (startOf g gateReads gateWrites)
   pub antenna : antennaTotal ≡ total (startOf a antennaReads antennaWrites)
   pub fits : unfit (startOf g gateReads gateWrites) (startOf a antennaReads antennaWrites) ≡ false
@@ -101,11 +102,15 @@ pub record Ready (g a : Board) (gateTotal antennaTotal : ℕ) (ends : Stations) 
       ≡ freshPair (startOf g gateReads gateWrites) (startOf a antennaReads antennaWrites)
 
 -- what it leaves
-pub record Exchanged (g a : Board) (gateReads gateWrites antennaReads antennaWrites : Slices) (events : List ℕ) (ends : Stations) (gateRegisters antennaRegisters : List ℕ)
-    (gateLeft antennaLeft : Slices) : Type 0 where
-  pub gate : stationSeen (ends .gate) gateRegisters ≡ seen (pairAfter (startOf g gateReads gateWrites) (startOf a antennaReads antennaWrites) (eventsOf events) .gate)
-  pub antenna : stationSeen (ends .antenna) antennaRegisters ≡ seen (pairAfter (startOf g gateReads gateWrites) (startOf a antennaReads antennaWrites) (eventsOf events) .antenna)
+pub record Exchanged (g a : Board) (gateReads gateWrites antennaReads antennaWrites : Slices) (events : List ℕ) (ends : Stations)
+    (gateRegisters antennaRegisters : List ℕ) (gateLeft antennaLeft : Slices) : Type 0 where
+  pub gate : stationSeen (ends .gate) gateRegisters
+      ≡ seen (pairAfter (startOf g gateReads gateWrites) (startOf a antennaReads antennaWrites) (eventsOf events) .gate)
+  pub antenna : stationSeen (ends .antenna) antennaRegisters
+      ≡ seen (pairAfter (startOf g gateReads gateWrites) (startOf a antennaReads antennaWrites) (eventsOf events) .antenna)
   pub gateBuffer : gateLeft
-      ≡ placed (g .width) (bufferOf (startOf g gateReads gateWrites) (pairAfter (startOf g gateReads gateWrites) (startOf a antennaReads antennaWrites) (eventsOf events) .gate)) gateReads
+      ≡ placed (g .width) (bufferOf (startOf g gateReads gateWrites)
+      (pairAfter (startOf g gateReads gateWrites) (startOf a antennaReads antennaWrites) (eventsOf events) .gate)) gateReads
   pub antennaBuffer : antennaLeft
-      ≡ placed (a .width) (bufferOf (startOf a antennaReads antennaWrites) (pairAfter (startOf g gateReads gateWrites) (startOf a antennaReads antennaWrites) (eventsOf events) .antenna)) antennaReads
+      ≡ placed (a .width) (bufferOf (startOf a antennaReads antennaWrites)
+      (pairAfter (startOf g gateReads gateWrites) (startOf a antennaReads antennaWrites) (eventsOf events) .antenna)) antennaReads

@@ -51,14 +51,21 @@ pub record TrialLeft : Type 0 where
 -- what the code answers, with the read slices at exit
 abbrev pub trialLeft : Outcome → Slices → Slices → TrialLeft
 trialLeft r gateReads antennaReads =
-    record { number = r .number; gate = stateOf (r .gate); antenna = stateOf (r .antenna); gateReads = gateReads; antennaReads = antennaReads }
+    record {
+      number = r .number;
+      gate = stateOf (r .gate);
+      antenna = stateOf (r .antenna);
+      gateReads = gateReads;
+      antennaReads = antennaReads;
+    }
 
 -- 9: all as found. Else the events, from fresh
 abbrev pub trialOf : Board → Board → Slices → Slices → Slices → Slices → List ℕ → TrialLeft
 trialOf g a gateReads gateWrites antennaReads antennaWrites events =
     let s = startOf g gateReads gateWrites in
     let t = startOf a antennaReads antennaWrites in
-    cond (unfit s t) (record { number = 9; gate = seen (freshEnd s); antenna = seen (freshEnd t); gateReads = gateReads; antennaReads = antennaReads })
+    cond (unfit s t)
+    (record { number = 9; gate = seen (freshEnd s); antenna = seen (freshEnd t); gateReads = gateReads; antennaReads = antennaReads })
     (let p = pairAfter s t (eventsOf events) in
     record {
       number = 0;

@@ -71,7 +71,9 @@ pub(crate) fn is_unfit(gate: Board, antenna: Board, gate_total: usize, antenna_t
 
 // An end that has made no access.
 pub(crate) fn fresh_station(transfer: Transfer) -> Station
-    ensures { λ r. ⌜ Roomy (r .port) × (r .received ≡ 0) × ((words registers : List ℕ) → endOf r words registers ≡ end transfer Flush.Status [] freshWire registers) ⌝ }
+    ensures { λ r. ⌜ Roomy (r .port) × (r .received ≡ 0)
+        ×
+        ((words registers : List ℕ) → endOf r words registers ≡ end transfer Flush.Status [] freshWire registers) ⌝ }
 {
     Station {
         transfer,

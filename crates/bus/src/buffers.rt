@@ -35,7 +35,10 @@ pub(crate) fn pack(
     u32s: &[u32],
     words: &mut [u32],
 )
-    ensures { λ _. ⌜ now (words .exit) ≡ laid (packWords order (widthBits width) total (pick width (slices (now (u8s .entry)) (now (u16s .entry)) (now (u32s .entry))))) (now (words .entry)) ⌝ }
+    ensures { λ _. ⌜ now (words .exit)
+        ≡ laid
+        (packWords order (widthBits width) total
+        (pick width (slices (now (u8s .entry)) (now (u16s .entry)) (now (u32s .entry))))) (now (words .entry)) ⌝ }
 {
     match width {
         Width::U8 => {
@@ -60,7 +63,11 @@ pub(crate) fn unpack(
     u16s: &mut [u16],
     u32s: &mut [u32],
 )
-    ensures { λ _. ⌜ slices (now (u8s .exit)) (now (u16s .exit)) (now (u32s .exit)) ≡ placed width (laid (unpackWords order (widthBits width) total (now (words .entry))) (pick width (slices (now (u8s .entry)) (now (u16s .entry)) (now (u32s .entry))))) (slices (now (u8s .entry)) (now (u16s .entry)) (now (u32s .entry))) ⌝ }
+    ensures { λ _. ⌜ slices (now (u8s .exit)) (now (u16s .exit)) (now (u32s .exit))
+        ≡ placed width
+        (laid (unpackWords order (widthBits width) total (now (words .entry)))
+        (pick width (slices (now (u8s .entry)) (now (u16s .entry)) (now (u32s .entry)))))
+        (slices (now (u8s .entry)) (now (u16s .entry)) (now (u32s .entry))) ⌝ }
 {
     match width {
         Width::U8 => {

@@ -18,7 +18,8 @@ pub(crate) fn clock(
     antenna_exponent: usize,
 ) -> Stations
     requires { ⌜ («gate_exponent» ≤ 4) × («antenna_exponent» ≤ 4) × Roomy (gate .port) × Roomy (antenna .port) ⌝ }
-    ensures { λ r. ⌜ Roomy (r .gate .port) × Roomy (r .antenna .port) × (r .gate .received ≡ gate .received) × (r .antenna .received ≡ antenna .received) × Clocked «gate_exponent» «antenna_exponent» gate antenna r ⌝ }
+    ensures { λ r. ⌜ Roomy (r .gate .port) × Roomy (r .antenna .port) × (r .gate .received ≡ gate .received)
+        × (r .antenna .received ≡ antenna .received) × Clocked «gate_exponent» «antenna_exponent» gate antenna r ⌝ }
 {
     let g = gate.port;
     let a = antenna.port;

@@ -27,8 +27,21 @@ fn happen(
     gate_registers: &mut [u32; 30],
     antenna_registers: &mut [u32; 30],
 ) -> Stations
-    requires { ⌜ («gate_link» .exponent ≤ 4) × («antenna_link» .exponent ≤ 4) × Roomy (stations .gate .port) × Roomy (stations .antenna .port) × (stations .gate .received ≤ length (now «gate_words»)) × (stations .antenna .received ≤ length (now «antenna_words»)) ⌝ }
-    ensures { λ r. ⌜ Roomy (r .gate .port) × Roomy (r .antenna .port) × (r .gate .received ≤ length (now («gate_words» .entry))) × (r .antenna .received ≤ length (now («antenna_words» .entry))) × (Stored (stations .gate) (now («gate_words» .entry)) → Stored (stations .antenna) (now («antenna_words» .entry)) → pair (endOf (r .gate) (now («gate_words» .exit)) (now («gate_registers» .exit))) (endOf (r .antenna) (now («antenna_words» .exit)) (now («antenna_registers» .exit))) ≡ happened (linkJob «gate_link» (now («gate_send» .entry))) (linkJob «antenna_link» (now («antenna_send» .entry))) (pair (endOf (stations .gate) (now («gate_words» .entry)) (now («gate_registers» .entry))) (endOf (stations .antenna) (now («antenna_words» .entry)) (now («antenna_registers» .entry)))) event) ⌝ }
+    requires { ⌜ («gate_link» .exponent ≤ 4) × («antenna_link» .exponent ≤ 4) × Roomy (stations .gate .port)
+        × Roomy (stations .antenna .port) × (stations .gate .received ≤ length (now «gate_words»))
+        × (stations .antenna .received ≤ length (now «antenna_words»)) ⌝ }
+    ensures { λ r. ⌜ Roomy (r .gate .port) × Roomy (r .antenna .port)
+        × (r .gate .received ≤ length (now («gate_words» .entry)))
+        × (r .antenna .received ≤ length (now («antenna_words» .entry)))
+        ×
+        (Stored (stations .gate) (now («gate_words» .entry))
+        → Stored (stations .antenna) (now («antenna_words» .entry))
+        → pair (endOf (r .gate) (now («gate_words» .exit)) (now («gate_registers» .exit)))
+        (endOf (r .antenna) (now («antenna_words» .exit)) (now («antenna_registers» .exit)))
+        ≡ happened (linkJob «gate_link» (now («gate_send» .entry)))
+        (linkJob «antenna_link» (now («antenna_send» .entry)))
+        (pair (endOf (stations .gate) (now («gate_words» .entry)) (now («gate_registers» .entry)))
+        (endOf (stations .antenna) (now («antenna_words» .entry)) (now («antenna_registers» .entry)))) event) ⌝ }
 {
     let gate = stations.gate;
     let antenna = stations.antenna;
@@ -77,8 +90,21 @@ pub(crate) fn run(
     gate_registers: &mut [u32; 30],
     antenna_registers: &mut [u32; 30],
 ) -> Stations
-    requires { ⌜ («gate_link» .exponent ≤ 4) × («antenna_link» .exponent ≤ 4) × Roomy (stations .gate .port) × Roomy (stations .antenna .port) × (stations .gate .received ≤ length (now «gate_words»)) × (stations .antenna .received ≤ length (now «antenna_words»)) ⌝ }
-    ensures { λ r. ⌜ Roomy (r .gate .port) × Roomy (r .antenna .port) × (r .gate .received ≤ length (now («gate_words» .entry))) × (r .antenna .received ≤ length (now («antenna_words» .entry))) × ((g a : Start) → Linked g a «gate_link» «antenna_link» (now («gate_send» .entry)) (now («antenna_send» .entry)) (length (now («gate_words» .entry))) (length (now («antenna_words» .entry))) → pair (endOf (stations .gate) (now («gate_words» .entry)) (now («gate_registers» .entry))) (endOf (stations .antenna) (now («antenna_words» .entry)) (now («antenna_registers» .entry))) ≡ freshPair g a → pair (endOf (r .gate) (now («gate_words» .exit)) (now («gate_registers» .exit))) (endOf (r .antenna) (now («antenna_words» .exit)) (now («antenna_registers» .exit))) ≡ pairAfter g a (eventsOf (now (events .entry)))) ⌝ }
+    requires { ⌜ («gate_link» .exponent ≤ 4) × («antenna_link» .exponent ≤ 4) × Roomy (stations .gate .port)
+        × Roomy (stations .antenna .port) × (stations .gate .received ≤ length (now «gate_words»))
+        × (stations .antenna .received ≤ length (now «antenna_words»)) ⌝ }
+    ensures { λ r. ⌜ Roomy (r .gate .port) × Roomy (r .antenna .port)
+        × (r .gate .received ≤ length (now («gate_words» .entry)))
+        × (r .antenna .received ≤ length (now («antenna_words» .entry)))
+        ×
+        ((g a : Start)
+        → Linked g a «gate_link» «antenna_link» (now («gate_send» .entry)) (now («antenna_send» .entry))
+        (length (now («gate_words» .entry))) (length (now («antenna_words» .entry)))
+        → pair (endOf (stations .gate) (now («gate_words» .entry)) (now («gate_registers» .entry)))
+        (endOf (stations .antenna) (now («antenna_words» .entry)) (now («antenna_registers» .entry))) ≡ freshPair g a
+        → pair (endOf (r .gate) (now («gate_words» .exit)) (now («gate_registers» .exit)))
+        (endOf (r .antenna) (now («antenna_words» .exit)) (now («antenna_registers» .exit)))
+        ≡ pairAfter g a (eventsOf (now (events .entry)))) ⌝ }
 {
     let mut ends = stations;
     for i in 0..events.len() {

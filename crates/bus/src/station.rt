@@ -127,7 +127,8 @@ fn control_held(value: u32) -> u32
 
 // A write to a register.
 fn write(registers: &mut [u32; 30], register: Register, value: u32)
-    ensures { λ _. ⌜ now (registers .exit) ≡ heldBy (roleOf register) (placeOf register) value (now (registers .entry)) ⌝ }
+    ensures { λ _. ⌜ now (registers .exit)
+        ≡ heldBy (roleOf register) (placeOf register) value (now (registers .entry)) ⌝ }
 {
     let i = place_of(register);
     match role_of(register) {
@@ -147,7 +148,8 @@ fn write(registers: &mut [u32; 30], register: Register, value: u32)
 
 // The registers after an access.
 fn store(access: Access, registers: &mut [u32; 30])
-    ensures { λ _. ⌜ ((word : ℕ → ℕ) → now (registers .exit) ≡ registersAfter word access (now (registers .entry))) ⌝ }
+    ensures { λ _. ⌜ ((word : ℕ → ℕ) → now (registers .exit)
+        ≡ registersAfter word access (now (registers .entry))) ⌝ }
 {
     match access {
         Access::Read(_) => {}
@@ -170,7 +172,11 @@ pub(crate) fn step(
     registers: &mut [u32; 30],
 ) -> Station
     requires { ⌜ (link .exponent ≤ 4) × Roomy (station .port) × (station .received ≤ length (now words)) ⌝ }
-    ensures { λ r. ⌜ Roomy (r .port) × (r .received ≤ length (now (words .entry))) × (Stored station (now (words .entry)) → endOf r (now (words .exit)) (now (registers .exit)) ≡ stepped (linkJob link (now (send .entry))) busy (endOf station (now (words .entry)) (now (registers .entry)))) ⌝ }
+    ensures { λ r. ⌜ Roomy (r .port) × (r .received ≤ length (now (words .entry)))
+        ×
+        (Stored station (now (words .entry)) → endOf r (now (words .exit)) (now (registers .exit))
+        ≡ stepped (linkJob link (now (send .entry))) busy
+        (endOf station (now (words .entry)) (now (registers .entry)))) ⌝ }
 {
     let transfer = station.transfer;
     let flush = station.flush;
@@ -191,7 +197,8 @@ pub(crate) fn step(
 
 impl Station {
     pub(crate) fn with_port(self, port: Port) -> Self
-        ensures { λ r. ⌜ (r .transfer ≡ self .transfer) × (r .flush ≡ self .flush) × (r .received ≡ self .received) × (r .port ≡ port) ⌝ }
+        ensures { λ r. ⌜ (r .transfer ≡ self .transfer) × (r .flush ≡ self .flush) × (r .received ≡ self .received)
+            × (r .port ≡ port) ⌝ }
     {
         let transfer = self.transfer;
         let flush = self.flush;
@@ -206,7 +213,10 @@ impl Station {
     // Noise sets a flag.
     pub(crate) fn noise(self, direction: Direction) -> Self
         requires { ⌜ Roomy (self .port) ⌝ }
-        ensures { λ r. ⌜ Roomy (r .port) × (r .received ≡ self .received) × ((words registers : List ℕ) → endOf r words registers ≡ rewired (raised direction) (endOf self words registers)) ⌝ }
+        ensures { λ r. ⌜ Roomy (r .port) × (r .received ≡ self .received)
+            ×
+            ((words registers : List ℕ) → endOf r words registers
+            ≡ rewired (raised direction) (endOf self words registers)) ⌝ }
     {
         let port = self.port;
         self.with_port(port.raise(direction))
