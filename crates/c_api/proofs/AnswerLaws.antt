@@ -1,29 +1,16 @@
 -- Ok twice (agreement `OkTwice`) is document 01's "answered 0" twice, as a host reads it: both numbers are 0.
 -- Assumes nothing.
-use mathlib.Core.Path.{_≡_, refl, ap}
+use mathlib.Core.Path.{_≡_, ap}
 use native.Mathlib.Omega.{arith}
-use Rattle.words.specs.declared.transaction.Direction.the-variants.{Tx, Rx}
-use Rattle.words.specs.declared.transaction.LpspiError.the-variants.{FrameSize, Fifo}
 use Rattle.sequences.specs.declared.access.Access.{Access}
 use Rattle.sequences.specs.declared.access.Access.the-variants.{Read, Write, Send, Receive, Done}
 use Rattle.sequences.specs.declared.access.Ending.{Ending}
-use Rattle.sequences.specs.declared.access.Ending.the-variants.{Ok, Err, Stopped, Limits, ZeroClock, FifoExponent}
-use Rattle.sequences.specs.Access.{numberOf}
+use Rattle.sequences.specs.declared.access.Ending.the-variants.{Ok}
+use Rattle.sequences.proofs.EndingLaws.{zero-is-ok}
 use Rattle.machine.specs.Flush.{flushAccess}
 use Rattle.machine.specs.Transfer.{dueAccess}
 use Rattle.agreement.specs.Agreement.{Seen, OkTwice}
 use Rattle.c_api.specs.HostBus.{answerNumber}
-
--- only Ok has the number 0
-pub zero-is-ok : (e : Ending) → numberOf e ≡ 0 → e ≡ Ok
-zero-is-ok Ok h = refl
-zero-is-ok (Err FrameSize) h = absurd (omega arith)
-zero-is-ok (Err (Fifo Tx)) h = absurd (omega arith)
-zero-is-ok (Err (Fifo Rx)) h = absurd (omega arith)
-zero-is-ok Stopped h = absurd (omega arith)
-zero-is-ok Limits h = absurd (omega arith)
-zero-is-ok ZeroClock h = absurd (omega arith)
-zero-is-ok FifoExponent h = absurd (omega arith)
 
 zero-is-done : (a : Access) → answerNumber a ≡ 0 → a ≡ Done Ok
 zero-is-done (Read r) h = absurd (omega arith)

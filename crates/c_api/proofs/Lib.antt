@@ -3,3 +3,4 @@ mod HostLaws
 mod PairLaws
 pub mod AnswerLaws
 pub mod HostAgreement
+pub mod HostBill

@@ -3,7 +3,6 @@ pub mod RunDepends
 pub mod RunUnlimited
 pub mod Unlimited
 pub mod Places
-pub mod Bill
 pub mod Calls
 pub mod DriveLaws
 mod FlushLaws

@@ -3,7 +3,6 @@ pub mod Run
 pub mod Flush
 pub mod Call
 pub mod Unlimited
-pub mod Unready
 pub mod Drive
 -- only private contracts cite these
 pub mod Loop

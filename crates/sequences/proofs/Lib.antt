@@ -3,3 +3,4 @@ pub mod ChangeLaws
 pub mod CallLaws
 pub mod ResetLaws
 pub mod SizeLaws
+pub mod EndingLaws

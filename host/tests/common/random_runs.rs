@@ -27,6 +27,13 @@ impl Mood {
         }
     }
 
+    pub fn without_errors(random: &mut Random) -> Self {
+        Self {
+            error: 0,
+            ..Self::new(random)
+        }
+    }
+
     /// An answer that may be to any register.
     pub fn answer(&self, random: &mut Random) -> u32 {
         // As SR no error, as PARAM much space, as FSR words to receive; one bit
@@ -106,7 +113,7 @@ pub fn random_limits<W>(
     limits
 }
 
-fn random_driver(random: &mut Random) -> Driver {
+pub fn random_driver(random: &mut Random) -> Driver {
     Driver {
         bit_order: random.order(),
         mode: random.any_size(),

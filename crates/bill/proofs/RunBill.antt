@@ -1,35 +1,33 @@
 -- What a transfer costs: a run that ended Ok has made 4 accesses, 4 for each word either way, and 3 for each poll that was not ready.
 -- Assumes nothing.
-use Prim.Native.Nat.{ℕ, zero, suc, _+_, _*_}
+use Prim.Native.Nat.{ℕ, _+_, _*_}
 use mathlib.Core.Bool.{Bool, true, false, cond}
-use mathlib.Core.List.{List, [], _∷_, _++_}
-use mathlib.Core.Path.{_≡_, refl, ap, subst}
-use native.Mathlib.Nat.{add-zero, add-assoc}
+use mathlib.Core.List.{List, [], _∷_}
+use mathlib.Core.Path.{_≡_, refl}
 use native.Mathlib.Omega.{arith}
 use lib.Dec.{ltb}
-use lib.ListN.{length, getD, length-append}
+use lib.ListN.{length, length-append}
 use Rattle.words.specs.declared.transaction.Direction.{Direction}
 use Rattle.words.specs.declared.transaction.Direction.the-variants.{Tx, Rx}
 use Rattle.words.specs.declared.transaction.LpspiError.the-variants.{Fifo}
-use Rattle.sequences.specs.declared.access.Access.{Access}
-use Rattle.sequences.specs.declared.access.Access.the-variants.{Read, Write, Done, Send as SendWord, Receive as ReceiveWord}
 use Rattle.sequences.specs.declared.access.Ending.{Ending}
 use Rattle.sequences.specs.declared.access.Ending.the-variants.{Ok, Err, Stopped, Limits, ZeroClock, FifoExponent}
 use Rattle.sequences.specs.declared.driver.Lpspi.{Lpspi}
+use Rattle.sequences.specs.declared.sequence.Sequence.{Sequence}
+use Rattle.sequences.specs.Recovery.{recoveryAfter, recovered}
 use Rattle.machine.specs.declared.poll.Poll.{Poll}
 use Rattle.machine.specs.declared.poll.Poll.the-variants.{Status, Sizes, Counts}
 use Rattle.machine.specs.declared.poll.Polled.the-variants.{Failed, Next, Ready, Unready}
-use Rattle.sequences.specs.declared.sequence.Sequence.{Sequence}
 use Rattle.machine.specs.declared.transfer.Stage.{Stage}
 use Rattle.machine.specs.declared.transfer.Stage.the-variants.{Space, Command, Sending, Send, Receiving, Receive, Recovery, Ended}
-use Rattle.machine.specs.declared.transfer.Work.{Work}
 use Rattle.machine.specs.declared.transfer.Transfer.{Transfer}
+use Rattle.machine.specs.declared.transfer.Work.{Work}
 use Rattle.machine.specs.Poll.{failed, ready}
-use Rattle.sequences.specs.Recovery.{recoveryAfter, recovered}
 use Rattle.machine.specs.Transfer.{at, startTransfer, sendTurn, receiveTurn, oneSent, oneReceived, spaceBy, sendingBy, receivingBy, dueAccess, resumed}
-use Rattle.runs.specs.Run.{Logged, State, start, halted, answerOf, endingOf, times, afterAccess, step, run}
-use Rattle.runs.specs.Unready.{unreadyIn, unready, unreadyPolls}
-use Rattle.runs.proofs.Places.{Standing, Placed, counted-up, placed-step, placed-run, start-placed, in-order, done-phase}
+use Rattle.runs.specs.Run.{State, start, halted, answerOf, endingOf, run}
+use Rattle.runs.proofs.Places.{Standing, counted-up, placed-run, start-placed, in-order}
+use Rattle.bill.specs.Unready.{unreadyIn, unreadyPolls}
+use Rattle.bill.proofs.UnreadyLaws.{Holding, Kept, entry, ok-due, ok-keeps}
 
 -- reads of a poll that were made
 abbrev reads : Poll → ℕ
@@ -60,8 +58,8 @@ Bill Receive w made n = made ≡ cost w + 3 + 3 * n
 Bill (Recovery d) w made n = Unit {0}
 Bill (Ended e) w made n = Final e w made n
 
-abbrev Billed : Transfer → ℕ → ℕ → Type 0
-Billed t made n = Bill (t .phase) (t .work) made n
+abbrev Billed : Holding
+Billed p w l n = Bill p w (length l) n
 
 send-bill : (w : Work) (made n : ℕ) → made ≡ cost w + 3 * n → Bill (sendTurn w) w made n
 send-bill w made n h = by-test (ltb (w .sent) (w .send)) (ltb (w .received) (w .receive))
@@ -111,7 +109,7 @@ recovery-bill false d w made n = tt
 
 -- one access
 bill-on : (p : Stage) (w : Work) (r : Sequence) (v made n used answers : ℕ) → halted (dueAccess (at p w r)) used answers ≡ false → Standing p w → Bill p w made n
-    → Billed (resumed (at p w r) (answerOf (dueAccess (at p w r)) v)) (made + 1) (n + unreadyIn p v)
+    → Bill (resumed (at p w r) (answerOf (dueAccess (at p w r)) v) .phase) (resumed (at p w r) (answerOf (dueAccess (at p w r)) v) .work) (made + 1) (n + unreadyIn p v)
 unfolding dueAccess resumed
 bill-on (Space Status) w r v made n used answers l t h = space-first (failed Tx v) w made n (omega arith)
 bill-on (Space Sizes) w r v made n used answers l t h = omega arith
@@ -128,38 +126,9 @@ bill-on Receive w r v made n used answers l t h = receive-bill (oneReceived w) (
 bill-on (Recovery d) w r v made n used answers l t h = recovery-bill (recovered (recoveryAfter r (answerOf (dueAccess (at (Recovery d) w r)) v))) d w (made + 1) (n + 0)
 bill-on (Ended e) w r v made n used answers l t h = absurd (let z : _≡_ {A = ℕ} 0 1 = cc in omega arith)
 
-longer : (t : Transfer) (l : List Logged) (x : Logged) (n : ℕ) → Billed t (length l + 1) n → Billed t (length (l ++ (x ∷ []))) n
-longer t l x n h = rw (length-append l (x ∷ [])) h
-
-module _ (script : List ℕ) (words : List ℕ → ℕ → ℕ) (send receive : ℕ) where
-  bill-step : (s : State Transfer) (k : ℕ) → Placed send receive (s .machine) (length (s .received)) → Billed (s .machine) (length (s .log)) k
-      → Billed (step dueAccess resumed words script s .machine) (length (step dueAccess resumed words script s .log)) (k + unready script s)
-  unfolding step afterAccess
-  bill-step s k p h = by-test (halted (dueAccess (s .machine)) (s .used) (length script)) refl
-    where
-      by-test : (t : Bool) → halted (dueAccess (s .machine)) (s .used) (length script) ≡ t
-          → Billed (cond t s (afterAccess dueAccess resumed words script (dueAccess (s .machine)) s) .machine) (length (cond t s (afterAccess dueAccess resumed words script (dueAccess (s .machine)) s) .log))
-          (k + cond t 0 (unreadyIn (s .machine .phase) (getD script (s .used) 0)))
-      by-test true t = rw add-zero h
-      by-test false t =
-          longer (resumed (s .machine) (answerOf (dueAccess (s .machine)) (getD script (s .used) 0))) (s .log) _ (k + unreadyIn (s .machine .phase) (getD script (s .used) 0))
-          (bill-on (s .machine .phase) (s .machine .work) (s .machine .reset) (getD script (s .used) 0) (length (s .log)) k (s .used) (length script) t (p .turn) h)
-
-  bill-run : (n : ℕ) (s : State Transfer) (k : ℕ) → Placed send receive (s .machine) (length (s .received)) → Billed (s .machine) (length (s .log)) k
-      → Billed (run dueAccess resumed words script n s .machine) (length (run dueAccess resumed words script n s .log)) (k + unreadyPolls script words n s)
-  unfolding times unreadyPolls
-  bill-run zero s k p h = rw add-zero h
-  bill-run (suc n) s k p h =
-      rw (← add-assoc)
-      (bill-run n (step dueAccess resumed words script s) (k + unready script s) (placed-step send receive words script s p) (bill-step s k p h))
-
--- a run ends Ok where its machine answers Ok
-ok-done : (a : Access) → endingOf a ≡ Ok → a ≡ Done Ok
-ok-done (Read r) e = cc
-ok-done (Write r v) e = cc
-ok-done (SendWord i) e = cc
-ok-done (ReceiveWord i) e = cc
-ok-done (Done x) e = ap Done e
+billed-on : Kept Billed
+billed-on t l value v n used answers go turn h =
+    rw (length-append l (entry t value ∷ [])) (bill-on (t .phase) (t .work) (t .reset) v (length l) n used answers go turn h)
 
 module _ (script : List ℕ) (words : List ℕ → ℕ → ℕ) (d : Lpspi) (command budget : ℕ) where
   -- AN OK RUN of so many words to send and to receive makes exactly so many accesses
@@ -169,8 +138,7 @@ module _ (script : List ℕ) (words : List ℕ → ℕ → ℕ) (d : Lpspi) (com
   ok-exactly send receive e =
       let s : State Transfer = start (startTransfer d command send receive) in
       let u : State Transfer = run dueAccess resumed words script budget s in
-      let due = ok-done (dueAccess (u .machine)) e in
-      let all = in-order send receive u (placed-run send receive words script budget s (start-placed d command send receive)) .all due in
-      let count = subst (λ (p : Stage). Bill p (u .machine .work) (length (u .log)) (0 + unreadyPolls script words budget s)) (done-phase (u .machine .phase) (u .machine .work) (u .machine .reset) Ok due)
-      (bill-run script words send receive budget s 0 (start-placed d command send receive) refl) in
+      let placed = start-placed d command send receive in
+      let all = in-order send receive u (placed-run send receive words script budget s placed) .all (ok-due (u .machine) e) in
+      let count = ok-keeps script words send receive Billed billed-on budget s placed refl e in
       omega (arith, all, count)

@@ -33,7 +33,8 @@ unreadyIn (Ended e) v = 0
 
 -- the next access, with the script's answer to it; 0 where no access can be made
 abbrev pub unready : List ℕ → State Transfer → ℕ
-unready script s = cond (halted (dueAccess (s .machine)) (s .used) (length script)) 0 (unreadyIn (s .machine .phase) (getD script (s .used) 0))
+unready script s =
+    cond (halted (dueAccess (s .machine)) (s .used) (length script)) 0 (unreadyIn (s .machine .phase) (getD script (s .used) 0))
 
 module _ (script : List ℕ) (words : List ℕ → ℕ → ℕ) where
   -- of a run from s, of at most so many accesses

@@ -1,0 +1,181 @@
+-- THE ACCESS BILL of the four transfers (document 02, No. 1), of what the functions return: `transferLeft r ..` stands in their contracts.
+-- Assumes nothing.
+use Prim.Native.Nat.{ℕ, zero, suc, _+_, _*_, _-_, _/_, _<_, _≤_, max}
+use mathlib.Core.Bool.{Bool, true, false, cond}
+use mathlib.Core.List.{List, []}
+use mathlib.Core.Path.{_≡_, refl, sym, ap, _∙_, subst}
+use native.Mathlib.Nat.{div-zero, div-eq-of-lt, mul-zero}
+use native.Mathlib.Omega.{arith}
+use lib.Dec.{eqb}
+use lib.ListN.{length}
+use borrow.Author.Tests.{eq-eqb, ne-eqb}
+use Rattle.words.specs.declared.transaction.LpspiError.the-variants.{FrameSize}
+use Rattle.words.specs.Word.{perWord}
+use Rattle.words.specs.Buffer.{wordCount}
+use Rattle.words.specs.Command.{frameAccepted, commanded}
+use Rattle.words.proofs.BufferLaws.{enough-words}
+use Rattle.sequences.specs.declared.access.Ending.{Ending}
+use Rattle.sequences.specs.declared.access.Ending.the-variants.{Ok, Err}
+use Rattle.sequences.specs.declared.driver.Lpspi.{Lpspi}
+use Rattle.sequences.specs.Access.{numberOf}
+use Rattle.sequences.specs.Driver.{driverCommand}
+use Rattle.sequences.proofs.EndingLaws.{zero-is-ok}
+use Rattle.machine.specs.declared.transfer.Transfer.{Transfer}
+use Rattle.machine.specs.Transfer.{startTransfer, endedTransfer, dueAccess, resumed}
+use Rattle.runs.specs.declared.result.RunResult.{RunResult}
+use Rattle.runs.specs.Run.{State, Left, start, run, limits, endingOf, logOver}
+use Rattle.runs.proofs.RunLaws.{run-halted}
+use Rattle.transfers.specs.Transfers.{Plan, begun, TransferLeft, transferred, transferLeft, separatePlan, inPlacePlan, writePlan, readPlan, exchangeSeparate, exchange, writeNoRead, readNoWrite}
+use Rattle.transfers.proofs.CallLaws.{leaves}
+use Rattle.bill.specs.Unready.{unreadyPolls}
+use Rattle.bill.specs.Listed.{pollsAgain}
+use Rattle.bill.specs.AccessBill.{AccessBill, waits}
+use Rattle.bill.proofs.UnreadyLaws.{no-polls}
+use Rattle.bill.proofs.RunBill.{ok-exactly}
+use Rattle.bill.proofs.RunListed.{ok-listed}
+
+-- any transfer, by its plan
+module _ (k : ℕ) (d : Lpspi) (p : Plan) (budget : ℕ) (script : List ℕ) where
+  abbrev from : Transfer → State Transfer
+  from t = run dueAccess resumed (p .words) script budget (start t)
+
+  abbrev Exact : Transfer → Type 0
+  Exact t =
+      endingOf (dueAccess (from t .machine)) ≡ Ok → length (from t .log) ≡ 4 + 4 * p .send + 4 * p .receive + 3 * unreadyPolls script (p .words) budget (start t)
+
+  -- a transfer that makes no access
+  unmoved : (e : Ending) → from (endedTransfer d e) ≡ start (endedTransfer d e)
+  unfolding dueAccess
+  unmoved e = run-halted dueAccess resumed (p .words) script budget (start (endedTransfer d e)) refl
+
+  refused-not-ok : endingOf (dueAccess (endedTransfer d (Err FrameSize))) ≡ Ok → ⊥
+  unfolding dueAccess
+  refused-not-ok e = let q : Err FrameSize ≡ Ok = e in let z : _≡_ {A = ℕ} 0 1 = cc in omega arith
+
+  -- a transfer that is not empty, and one that is
+  by-start : (command : ℕ) (b c : Bool) → b ≡ false → Exact (cond b (endedTransfer d Ok) (cond c (startTransfer d command (p .send) (p .receive)) (endedTransfer d (Err FrameSize))))
+  by-start command true c h e = absurd (let z : _≡_ {A = ℕ} 0 1 = cc in omega arith)
+  by-start command false true h e = ok-exactly script (p .words) d command budget (p .send) (p .receive) e
+  by-start command false false h e = absurd (refused-not-ok (ap (λ (s : State Transfer). endingOf (dueAccess (s .machine))) (sym (unmoved (Err FrameSize))) ∙ e))
+
+  none-made : (b : Bool) (t : Transfer) → b ≡ true → length (from (cond b (endedTransfer d Ok) t) .log) ≡ 0
+  none-made true t h = ap (λ (s : State Transfer). length (s .log)) (unmoved Ok)
+  none-made false t h = absurd (let z : _≡_ {A = ℕ} 0 1 = cc in omega arith)
+
+  abbrev Listed : List ℕ → Transfer → Type 0
+  Listed old t =
+      endingOf (dueAccess (from t .machine)) ≡ Ok → unreadyPolls script (p .words) budget (start t) ≡ pollsAgain (length (from t .log)) (logOver old (from t .log))
+
+  empty-listed : (old : List ℕ) → Listed old (endedTransfer d Ok)
+  unfolding dueAccess
+  empty-listed old e =
+      no-polls script (p .words) budget (start (endedTransfer d Ok)) refl
+      ∙ ap (λ (s : State Transfer). pollsAgain (length (s .log)) (logOver old (s .log))) (sym (unmoved Ok))
+
+  listed-by-start : (command : ℕ) (old : List ℕ) (b c : Bool)
+      → Listed old (cond b (endedTransfer d Ok) (cond c (startTransfer d command (p .send) (p .receive)) (endedTransfer d (Err FrameSize))))
+  listed-by-start command old true c e = empty-listed old e
+  listed-by-start command old false true e = ok-listed script (p .words) d command budget (p .send) (p .receive) old e
+  listed-by-start command old false false e = absurd (refused-not-ok (ap (λ (s : State Transfer). endingOf (dueAccess (s .machine))) (sym (unmoved (Err FrameSize))) ∙ e))
+
+  ok-exact : (buffer log : List ℕ) → 0 < p .total → transferred k d p buffer budget script log .call .result .ending ≡ Ok
+      → transferred k d p buffer budget script log .call .result .accesses ≡ 4 + 4 * p .send + 4 * p .receive + 3 * waits k d p budget script
+  ok-exact buffer log some = by-limits (limits budget log)
+    where
+      inside : Exact (begun k d p)
+      inside =
+          by-start (commanded (λ w. p .command (driverCommand d w)) (k * p .total) .value) (eqb (p .total) 0) (frameAccepted (k * p .total))
+          (ne-eqb (p .total) 0 (λ (e : p .total ≡ 0). omega arith))
+
+      by-limits : (b : Bool) → leaves k d p budget script b buffer log .call .result .ending ≡ Ok
+          → leaves k d p budget script b buffer log .call .result .accesses ≡ 4 + 4 * p .send + 4 * p .receive + 3 * waits k d p budget script
+      by-limits true e = absurd (let z : _≡_ {A = ℕ} 0 1 = cc in omega arith)
+      by-limits false e = inside e
+
+  empty-none : (buffer log : List ℕ) → p .total ≡ 0 → transferred k d p buffer budget script log .call .result .accesses ≡ 0
+  empty-none buffer log none = by-limits (limits budget log)
+    where
+      by-limits : (b : Bool) → leaves k d p budget script b buffer log .call .result .accesses ≡ 0
+      by-limits true = refl
+      by-limits false = none-made (eqb (p .total) 0) _ (eq-eqb (p .total) 0 none)
+
+  ok-log : (buffer log : List ℕ) → transferred k d p buffer budget script log .call .result .ending ≡ Ok
+      → waits k d p budget script ≡ pollsAgain (transferred k d p buffer budget script log .call .result .accesses) (transferred k d p buffer budget script log .call .log)
+  ok-log buffer log = by-limits (limits budget log)
+    where
+      by-limits : (b : Bool) → leaves k d p budget script b buffer log .call .result .ending ≡ Ok
+          → waits k d p budget script ≡ pollsAgain (leaves k d p budget script b buffer log .call .result .accesses) (leaves k d p budget script b buffer log .call .log)
+      by-limits true e = absurd (let z : _≡_ {A = ℕ} 0 1 = cc in omega arith)
+      by-limits false e = listed-by-start (commanded (λ w. p .command (driverCommand d w)) (k * p .total) .value) log (eqb (p .total) 0) (frameAccepted (k * p .total)) e
+
+-- n is 0 for the empty transfer, and at least 1 for every other of elements that a word holds
+no-words : (k : ℕ) → wordCount k 0 ≡ 0
+no-words k = by-places (perWord k)
+  where
+    by-places : (c : ℕ) → (0 + (c - 1)) / c ≡ 0
+    by-places zero = div-zero (0 + (0 - 1))
+    by-places (suc c) = div-eq-of-lt (omega arith)
+
+pub words-of-some : (k n : ℕ) → 1 ≤ wordCount k n → 0 < n
+words-of-some k zero h = absurd (omega (arith, no-words k))
+words-of-some k (suc n) h = omega arith
+
+pub some-words : (k n : ℕ) → 0 < perWord k → 0 < n → 1 ≤ wordCount k n
+some-words k n h some = by-count (wordCount k n) (enough-words k n h)
+  where
+    by-count : (c : ℕ) → n ≤ perWord k * c → 1 ≤ c
+    by-count zero l = absurd (omega (arith, l, mul-zero (perWord k)))
+    by-count (suc c) l = omega arith
+
+-- ANY TRANSFER, by its plan: of what the definition leaves
+module _ (k : ℕ) (d : Lpspi) (budget : ℕ) (script log : List ℕ) (p : Plan) (buffer : List ℕ) where
+  abbrev call : Left
+  call = transferred k d p buffer budget script log .call
+
+  ended-ok : call .number ≡ 0 → call .result .ending ≡ Ok
+  ended-ok = by-limits (limits budget log)
+    where
+      by-limits : (b : Bool) → leaves k d p budget script b buffer log .call .number ≡ 0 → leaves k d p budget script b buffer log .call .result .ending ≡ Ok
+      by-limits true h = absurd (omega arith)
+      by-limits false h = zero-is-ok _ h
+
+  pub plan-bill : (each : ℕ) → 4 * p .send + 4 * p .receive ≡ each * wordCount k (p .total)
+      → AccessBill k (p .total) each (waits k d p budget script) (call .number) (call .result .accesses) (call .log)
+  plan-bill each words = record {
+    exactly = λ ok some. exact ok (words-of-some k (p .total) some);
+    none = none;
+    atMost = λ ok. by-total (p .total) refl ok;
+    listed = λ ok. ok-log k d p budget script buffer log (ended-ok ok);
+  }
+    where
+      exact : call .number ≡ 0 → 0 < p .total → call .result .accesses ≡ 4 + each * wordCount k (p .total) + 3 * waits k d p budget script
+      exact ok some = omega (arith, words, ok-exact k d p budget script buffer log some (ended-ok ok))
+
+      none : p .total ≡ 0 → call .result .accesses ≡ 0
+      none = empty-none k d p budget script buffer log
+
+      by-total : (n : ℕ) → p .total ≡ n → call .number ≡ 0 → call .result .accesses ≤ 4 + each * wordCount k (p .total) + 3 * waits k d p budget script
+      by-total zero t ok = omega (arith, none t)
+      by-total (suc n) t ok = omega (arith, exact ok (omega arith))
+
+-- THE FOUR TRANSFERS, of what the functions return: 8 accesses a word where it goes both ways, 4 where it goes one way
+module _ (k : ℕ) (d : Lpspi) (budget : ℕ) (script log : List ℕ) {r : RunResult} {log′ buffer′ : List ℕ} where
+  returned : {t : TransferLeft} (total each w : ℕ) → AccessBill k total each w (t .call .number) (t .call .result .accesses) (t .call .log)
+      → transferLeft r log′ buffer′ ≡ t → AccessBill k total each w (numberOf (r .ending)) (r .accesses) log′
+  returned total each w bill e = subst (λ (t : TransferLeft). AccessBill k total each w (t .call .number) (t .call .result .accesses) (t .call .log)) (sym e) bill
+
+  pub separate-bill : (read write : List ℕ) → transferLeft r log′ buffer′ ≡ exchangeSeparate k d read write budget script log
+      → AccessBill k (max (length read) (length write)) 8 (waits k d (separatePlan k d read write) budget script) (numberOf (r .ending)) (r .accesses) log′
+  separate-bill read write = returned _ _ _ (plan-bill k d budget script log (separatePlan k d read write) read 8 (omega arith))
+
+  pub in-place-bill : (buf : List ℕ) → transferLeft r log′ buffer′ ≡ exchange k d buf budget script log
+      → AccessBill k (length buf) 8 (waits k d (inPlacePlan k d buf) budget script) (numberOf (r .ending)) (r .accesses) log′
+  in-place-bill buf = returned _ _ _ (plan-bill k d budget script log (inPlacePlan k d buf) buf 8 (omega arith))
+
+  pub write-bill : (buf : List ℕ) → transferLeft r log′ buffer′ ≡ writeNoRead k d buf budget script log
+      → AccessBill k (length buf) 4 (waits k d (writePlan k d buf) budget script) (numberOf (r .ending)) (r .accesses) log′
+  write-bill buf = returned _ _ _ (plan-bill k d budget script log (writePlan k d buf) [] 4 (omega arith))
+
+  pub read-bill : (buf : List ℕ) → transferLeft r log′ buffer′ ≡ readNoWrite k d buf budget script log
+      → AccessBill k (length buf) 4 (waits k d (readPlan k d buf) budget script) (numberOf (r .ending)) (r .accesses) log′
+  read-bill buf = returned _ _ _ (plan-bill k d budget script log (readPlan k d buf) buf 4 (omega arith))

@@ -1,0 +1,4 @@
+mod UnreadyLaws
+pub mod RunBill
+pub mod RunListed
+pub mod BillLaws

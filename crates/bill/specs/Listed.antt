@@ -1,0 +1,19 @@
+-- w as a log shows it. A poll that is not ready is made again: a read of FSR, and right behind it a read of SR ("R 5C" and "R 14" in a
+-- listing of `buslog`).
+-- Assumes nothing.
+use Prim.Native.Nat.{ℕ, zero, suc, _+_}
+use mathlib.Core.Bool.{Bool, false, cond}
+use mathlib.Core.List.{List}
+use lib.Dec.{eqb}
+use lib.ListN.{getD, drop}
+use Rattle.manual.specs.declared.Register.the-variants.{SR, FSR}
+use Rattle.manual.specs.Manual.{offsetOf}
+
+-- of n accesses, two places each; `counts` tells whether the access before them read FSR
+abbrev pub againAfter : Bool → ℕ → List ℕ → ℕ
+againAfter counts zero log = 0
+againAfter counts (suc n) log =
+    cond (eqb (getD log 0 0) (offsetOf SR)) (cond counts 1 0) 0 + againAfter (eqb (getD log 0 0) (offsetOf FSR)) n (drop 2 log)
+
+abbrev pub pollsAgain : ℕ → List ℕ → ℕ
+pollsAgain = againAfter false
