@@ -9,13 +9,12 @@ use common::registers::{FSR, SR, TCR, WRITE};
 use common::run::{found, Limits, MAX_BUDGET};
 use common::transfer::{Element, Kind, Transfer};
 use common::{walk, Random};
+use lpspi_host::raw;
 
-/// w, counted off the log alone: a poll that is not ready is made again, so that a read of FSR is followed by a read of SR.
+/// w, counted off the log alone: behind an unready poll the next one begins at once, so that a read of FSR is followed by a read of SR.
 fn unready(registers: &[u32]) -> usize {
-    registers
-        .windows(2)
-        .filter(|pair| **pair == [FSR, SR])
-        .count()
+    let pairs = registers.windows(2);
+    pairs.filter(|pair| **pair == [FSR, SR]).count()
 }
 
 /// FIFO words of the frame that TCR was written with.
@@ -23,24 +22,37 @@ fn words(tcr: u32) -> usize {
     ((tcr & 0xFFF) as usize + 1).div_ceil(32)
 }
 
-/// Ok runs without an unready poll, with some, and with some before the command.
+/// How many Ok runs had no unready poll, some, and some before the command; and of separate exchanges, by the longer buffer.
 #[derive(Debug, Default)]
 struct Seen {
     ready: usize,
     unready: usize,
     before_command: usize,
+    read_longer: usize,
+    write_longer: usize,
+}
+
+impl Seen {
+    fn enough(&self, kind: Kind) -> bool {
+        let lengths = kind != Kind::Separate || self.read_longer.min(self.write_longer) >= 200;
+        self.ready >= 50 && self.unready >= 500 && self.before_command >= 50 && lengths
+    }
 }
 
 /// Random runs of one kind. n, too, is read off the log.
 fn random_bills<W: Element>(random: &mut Random, kind: Kind) {
     let mut seen = Seen::default();
     for _ in 0..2_000 {
-        let length = match random.below(16) {
+        let longer = match random.below(16) {
             0 => Transfer::<W>::LONGEST,
             _ => 1 + random.below(40),
         };
+        let shorter = random.below(longer + 1);
+        let lengths = match random.flag() {
+            true => (longer, shorter),
+            false => (shorter, longer),
+        };
         let driver = random_driver(random);
-        let lengths = (length, random.below(length + 1));
         let transfer = Transfer::<W>::new(kind, driver, lengths, || random.word());
         let mood = Mood::without_errors(random);
         let answers = 16 * transfer.words() + 80;
@@ -58,7 +70,7 @@ fn random_bills<W: Element>(random: &mut Random, kind: Kind) {
             .position(|register| *register == WRITE + TCR);
         let command = command.expect("an Ok run writes its command");
         let (n, w) = (words(values[command]), unready(&registers));
-        assert_eq!(n, transfer.words());
+        assert_eq!(n, longer.div_ceil(Transfer::<W>::PER_WORD));
         assert_eq!(
             left.accesses,
             4 + 4 * kind.sides() * n + 3 * w,
@@ -70,11 +82,12 @@ fn random_bills<W: Element>(random: &mut Random, kind: Kind) {
             &mut seen.ready
         }) += 1;
         seen.before_command += usize::from(command > 3);
+        seen.read_longer += usize::from(transfer.read.len() > transfer.write.len());
+        seen.write_longer += usize::from(transfer.read.len() < transfer.write.len());
         random.cases.count();
     }
     println!("{kind:?}, {} bits: {seen:?}", 8 * size_of::<W>());
-    let enough = seen.ready >= 50 && seen.unready >= 500 && seen.before_command >= 50;
-    assert!(enough, "{kind:?}: too few Ok runs: {seen:?}");
+    assert!(seen.enough(kind), "{kind:?}: too few Ok runs: {seen:?}");
 }
 
 #[test]
@@ -87,7 +100,10 @@ fn ok_runs_make_exactly_so_many_accesses() {
     }
 }
 
+/// The counts stand at another value before. A transfer that only writes leaves the read buffer as found, and one that only reads takes no
+/// write buffer: neither counts.
 fn empty_bills<W: Element>(random: &mut Random, kind: Kind) {
+    let other = [W::of(0x5A); 3];
     for (budget, log_len, number) in [
         (0, 0, 0),
         (20, 40, 0),
@@ -95,16 +111,26 @@ fn empty_bills<W: Element>(random: &mut Random, kind: Kind) {
         (20, 39, 5),
         (MAX_BUDGET + 1, 2 * MAX_BUDGET + 2, 5),
     ] {
-        let driver = random_driver(random);
-        let transfer = Transfer::<W>::new(kind, driver, (0, 0), || 0);
-        let limits = Limits {
-            budget,
-            log_len,
-            script: random.words(20),
+        let (mut read, write) = match kind {
+            Kind::Separate => (vec![], &[][..]),
+            Kind::Write => (other.to_vec(), &[][..]),
+            Kind::InPlace | Kind::Read => (vec![], &other[..]),
         };
-        let left = transfer.port(&limits);
-        assert_eq!((left.number, left.accesses, left.answers), (number, 0, 0));
-        assert_eq!(left.log, found(log_len));
+        let (script, mut log) = (random.words(20), found(log_len));
+        let (mut driver, mut accesses, mut answers) = (random.word(), 7, 7);
+        let given = raw::transfer(
+            kind as u32,
+            &mut driver,
+            &mut read,
+            write,
+            budget,
+            &script,
+            &mut log,
+            &mut accesses,
+            &mut answers,
+        );
+        assert_eq!((given, accesses, answers), (number, 0, 0), "{kind:?}");
+        assert_eq!(log, found(log_len));
         random.cases.count();
     }
 }
@@ -147,18 +173,25 @@ fn input_words(input: &str) -> usize {
     (width * written.max(read)).div_ceil(32)
 }
 
-/// The formula of docs/BUSLOG.md holds of every Ok exchange that the page shows.
+/// docs/BUSLOG.md has the formula, and it holds of every Ok exchange that the page shows: without an unready poll, with some, and with some
+/// before the command.
 #[test]
 fn documented_bills() {
-    let mut bills = Vec::new();
+    let page = concat!(env!("CARGO_MANIFEST_DIR"), "/../docs/BUSLOG.md");
+    let page = std::fs::read_to_string(page).expect("the page is there");
+    assert!(page.contains("\n    accesses = 4 + 8 × n + 3 × w\n"));
+
+    let (mut ready, mut waiting, mut before_command) = (0, 0, 0);
     for (input, listing) in documented() {
         let (registers, numbers) = listed(&listing);
-        if let [0, accesses, _] = numbers[..] {
-            let (n, w) = (input_words(&input), unready(&registers));
-            assert_eq!(accesses, if n == 0 { 0 } else { 4 + 8 * n + 3 * w });
-            bills.push((n, w));
-        }
+        let [0, accesses, _] = numbers[..] else {
+            continue;
+        };
+        let (n, w) = (input_words(&input), unready(&registers));
+        assert!(n > 0);
+        assert_eq!(accesses, 4 + 8 * n + 3 * w);
+        *(if w > 0 { &mut waiting } else { &mut ready }) += 1;
+        before_command += usize::from(registers[3] == SR);
     }
-    assert!(bills.iter().any(|(_, w)| *w > 0), "{bills:?}");
-    assert!(bills.iter().any(|(n, w)| *n > 0 && *w == 0), "{bills:?}");
+    assert!(ready > 0 && waiting > 0 && before_command > 0);
 }

@@ -16,9 +16,9 @@ use Rattle.words.specs.declared.width.Width.the-variants.{U8, U16, U32}
 use Rattle.words.specs.Buffer.{dummy, wordCount, filled, wordAt, packWords, unpackWords}
 use Rattle.words.specs.Command.{frameAccepted, commanded, lsbfOf}
 use Rattle.words.specs.Width.{widthBits}
-use Rattle.words.specs.Word.{perWord, laid}
+use Rattle.words.specs.Word.{laid}
 use Rattle.words.proofs.WordLaws.{Elements}
-use Rattle.words.proofs.BufferLaws.{length-filled, unpack-pack-words}
+use Rattle.words.proofs.BufferLaws.{length-filled, holds-one, unpack-pack-words}
 use Rattle.words.proofs.LaidLaws.{laid-at, in-place-word}
 use Rattle.sequences.specs.declared.access.Ending.the-variants.{Ok, Err}
 use Rattle.machine.specs.declared.flush.Flush.the-variants.{Status}
@@ -113,17 +113,12 @@ filled-at d (suc n) [] (suc i) h = filled-at d n [] i (omega arith)
 filled-at d (suc n) (x ∷ xs) zero h = refl
 filled-at d (suc n) (x ∷ xs) (suc i) h = filled-at d n xs i (omega arith)
 
-pub divides : (w : Width) → 0 < perWord (widthBits w)
-divides U8 = omega arith
-divides U16 = omega arith
-divides U32 = omega arith
-
 -- a read buffer over which the words of xs were laid holds them, and dummies
 pub laid-words : (o : BitOrder) (w : Width) (n : ℕ) (xs buf : List ℕ) → Elements (widthBits w) xs → length buf ≤ n → (i : ℕ) → i < length buf
     → getD (laid (unpackWords o (widthBits w) n (packWords o (widthBits w) n xs)) buf) i 0 ≡ getD xs i (dummy (widthBits w))
 laid-words o w n xs buf small l i h =
     let k = widthBits w in
-    ap (λ (ys : List ℕ). getD (laid ys buf) i 0) (unpack-pack-words o k n xs (divides w) small)
+    ap (λ (ys : List ℕ). getD (laid ys buf) i 0) (unpack-pack-words o k n xs (holds-one w) small)
     ∙ laid-at (filled (dummy k) n xs) buf i (omega (arith, length-filled (dummy k) n xs)) h
     ∙ filled-at (dummy k) n xs i (omega arith)
 

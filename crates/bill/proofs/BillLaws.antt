@@ -10,10 +10,12 @@ use lib.Dec.{eqb}
 use lib.ListN.{length}
 use borrow.Author.Tests.{eq-eqb, ne-eqb}
 use Rattle.words.specs.declared.transaction.LpspiError.the-variants.{FrameSize}
+use Rattle.words.specs.declared.width.Width.{Width}
+use Rattle.words.specs.Width.{widthBits}
 use Rattle.words.specs.Word.{perWord}
 use Rattle.words.specs.Buffer.{wordCount}
 use Rattle.words.specs.Command.{frameAccepted, commanded}
-use Rattle.words.proofs.BufferLaws.{enough-words}
+use Rattle.words.proofs.BufferLaws.{holds-one, enough-words}
 use Rattle.sequences.specs.declared.access.Ending.{Ending}
 use Rattle.sequences.specs.declared.access.Ending.the-variants.{Ok, Err}
 use Rattle.sequences.specs.declared.driver.Lpspi.{Lpspi}
@@ -108,7 +110,7 @@ module _ (k : ℕ) (d : Lpspi) (p : Plan) (budget : ℕ) (script : List ℕ) whe
       by-limits true e = absurd (let z : _≡_ {A = ℕ} 0 1 = cc in omega arith)
       by-limits false e = listed-by-start (commanded (λ w. p .command (driverCommand d w)) (k * p .total) .value) log (eqb (p .total) 0) (frameAccepted (k * p .total)) e
 
--- n is 0 for the empty transfer, and at least 1 for every other of elements that a word holds
+-- n is 0 for the empty transfer and, at the three widths, at least 1 for every other
 no-words : (k : ℕ) → wordCount k 0 ≡ 0
 no-words k = by-places (perWord k)
   where
@@ -120,11 +122,11 @@ pub words-of-some : (k n : ℕ) → 1 ≤ wordCount k n → 0 < n
 words-of-some k zero h = absurd (omega (arith, no-words k))
 words-of-some k (suc n) h = omega arith
 
-pub some-words : (k n : ℕ) → 0 < perWord k → 0 < n → 1 ≤ wordCount k n
-some-words k n h some = by-count (wordCount k n) (enough-words k n h)
+pub some-words : (x : Width) (n : ℕ) → 0 < n → 1 ≤ wordCount (widthBits x) n
+some-words x n some = by-count (wordCount (widthBits x) n) (enough-words (widthBits x) n (holds-one x))
   where
-    by-count : (c : ℕ) → n ≤ perWord k * c → 1 ≤ c
-    by-count zero l = absurd (omega (arith, l, mul-zero (perWord k)))
+    by-count : (c : ℕ) → n ≤ perWord (widthBits x) * c → 1 ≤ c
+    by-count zero l = absurd (omega (arith, l, mul-zero (perWord (widthBits x))))
     by-count (suc c) l = omega arith
 
 -- ANY TRANSFER, by its plan: of what the definition leaves

@@ -34,7 +34,7 @@ use Rattle.bill.specs.Unready.{unreadyIn, unreadyPolls}
 use Rattle.bill.specs.Listed.{againAfter, pollsAgain}
 use Rattle.bill.proofs.UnreadyLaws.{Holding, Kept, entry, ok-keeps}
 
--- one access more: whether it makes a poll again
+-- one access more: whether it begins a poll right behind another
 abbrev again : Bool → ℕ → ℕ
 again counts code = cond (eqb code (offsetOf SR)) (cond counts 1 0) 0
 
@@ -59,7 +59,7 @@ last-on : (counts : Bool) (l : List Logged) (a : Logged) → lastCounts counts (
 last-on counts [] a = refl
 last-on counts (b ∷ l) a = last-on (eqb (b .at) (offsetOf FSR)) l a
 
--- n unready polls, `made` of them made again so far; the last one is not yet where the last access read its counts
+-- n unready polls; behind `made` of them another has begun, behind the last one not yet where the last access read its counts
 abbrev Polling : Poll → Bool → ℕ → ℕ → Type 0
 Polling Status last made n = n ≡ made + cond last 1 0
 Polling Sizes last made n = n ≡ made

@@ -1,5 +1,5 @@
--- w as a log shows it. A poll that is not ready is made again: a read of FSR, and right behind it a read of SR ("R 5C" and "R 14" in a
--- listing of `buslog`).
+-- w as a log shows it. Behind an unready poll another one begins at once, of the same side or of the other: a read of FSR, and right behind
+-- it a read of SR ("R 5C" and "R 14" in a listing of `buslog`). Behind a ready poll TCR, TDR or RDR is accessed.
 -- Assumes nothing.
 use Prim.Native.Nat.{ℕ, zero, suc, _+_}
 use mathlib.Core.Bool.{Bool, false, cond}

@@ -15,6 +15,7 @@ use Rattle.words.specs.Buffer.{wordCount, wordAt, packWords, unpackWords, cutWo
 use Rattle.words.specs.Command.{frameAccepted}
 use Rattle.words.specs.Width.{widthBits}
 use Rattle.words.specs.Word.{laid}
+use Rattle.words.proofs.BufferLaws.{holds-one}
 use Rattle.words.proofs.WordLaws.{Elements}
 use Rattle.words.proofs.CommandLaws.{accepted-between}
 use Rattle.words.proofs.LaidLaws.{in-place-word, packed-at}
@@ -29,7 +30,6 @@ use Rattle.agreement.specs.End.{freshWire, freshRegisters, End, end, freshEnd}
 use Rattle.agreement.specs.Events.{pairAfter}
 use Rattle.agreement.specs.Agreement.{Seen, seen, bufferOf, Agreement}
 use Rattle.agreement.specs.Codes.{eventsOf}
-use Rattle.agreement.proofs.StartFacts.{divides}
 use Rattle.agreement.proofs.Demand3.{agreement}
 use Rattle.bus.specs.declared.station.Link.{Link}
 use Rattle.bus.specs.declared.station.Station.{Station}
@@ -76,7 +76,7 @@ module _ (s : Start) (l : Link) (send : List ℕ) (e : l .exponent ≡ s .board 
   packed : accepted s ≡ true → (i : ℕ) → getD send i 0 ≡ wordAt o (elementBits s) (total s) (started s) i
   packed ok i =
       ap (λ (xs : List ℕ). getD xs i 0) es
-      ∙ packed-at o (elementBits s) (total s) i (started s) (replicate {A = ℕ} 128 0) (divides (s .board .width)) (blank 128)
+      ∙ packed-at o (elementBits s) (total s) i (started s) (replicate {A = ℕ} 128 0) (holds-one (s .board .width)) (blank 128)
       (subst (λ (m : ℕ). frameWords s ≤ m) (sym (length-replicate {A = ℕ} 128 0)) (few-words (s .board .width) (total s) ok))
 
   -- the frame is that of the board

@@ -20,7 +20,7 @@ use Rattle.words.specs.Buffer.{wordCount, wordAt, packWords, unpackWords}
 use Rattle.words.specs.Command.{commandAnswer, frameAccepted, framed, setFlag}
 use Rattle.words.specs.Longer.{longer}
 use Rattle.words.specs.Width.{widthBits}
-use Rattle.words.proofs.BufferLaws.{laid-nothing}
+use Rattle.words.proofs.BufferLaws.{laid-nothing, holds-one}
 use Rattle.words.proofs.CommandLaws.{accepted-word, refused-size}
 use Rattle.sequences.specs.declared.access.Ending.{Ending}
 use Rattle.sequences.specs.declared.access.Ending.the-variants.{Ok, Err, Limits}
@@ -34,7 +34,7 @@ use Rattle.runs.specs.Run.{State, limits}
 use Rattle.transfers.specs.Transfers.{Plan, transferLeft, transferred, exchangeSeparate, exchange, writeNoRead, readNoWrite, separatePlan, inPlacePlan, writePlan, readPlan}
 use Rattle.runs.specs.Drive.{sentFrom, drivenLeft, drivenBy, DrivenLeft, wordsRun, resultOf}
 use Rattle.runs.proofs.DriveLaws.{words-run}
-use Rattle.transfers.proofs.TransferLaws.{longer-length, left-unstarted, left-run, stored-elements, sent-packed, sent-in-place, accepted-words, holds-one, blank-at}
+use Rattle.transfers.proofs.TransferLaws.{longer-length, left-unstarted, left-run, stored-elements, sent-packed, sent-in-place, accepted-words, blank-at}
 
 -- NO ACCESS: `full` answers number 5, `len` is the total length that the code has
 abbrev still : Lpspi → Ending → RunResult

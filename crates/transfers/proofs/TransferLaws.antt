@@ -6,7 +6,7 @@ use mathlib.Core.List.{List}
 use mathlib.Core.Path.{_≡_, refl, sym, ap, ap₂, _∙_}
 use native.Mathlib.Nat.{mul-zero, mod-one}
 use native.Mathlib.Omega.{arith}
-use lib.Dec.{ltb, leb, lit<}
+use lib.Dec.{ltb, leb}
 use lib.ListN.{length, getD, take, replicate}
 use lib.Seq.{take-all}
 use borrow.Author.Tests.{lt-ltb, ltb-true, ltb-false, leb-true, leb-false, ne-eqb}
@@ -22,6 +22,7 @@ use Rattle.words.specs.Buffer.{wordCount, countAt, wordAt, packWords, unpackWor
 use Rattle.words.specs.Command.{frameAccepted}
 use Rattle.words.specs.Longer.{longer}
 use Rattle.words.specs.Width.{widthBits}
+use Rattle.words.proofs.BufferLaws.{holds-one}
 use Rattle.words.proofs.CommandLaws.{accepted-between}
 use Rattle.words.proofs.LaidLaws.{in-place-word, unpack-take, packed-at, laid-at, take-laid, word-past, total-ends}
 use Rattle.sequences.specs.declared.access.Ending.{Ending}
@@ -52,11 +53,6 @@ pub accepted-words : (x : Width) (total : ℕ) → frameAccepted (widthBits x * 
 accepted-words U8 total a = let b = accepted-between (8 * total) a in omega arith
 accepted-words U16 total a = let b = accepted-between (16 * total) a in omega arith
 accepted-words U32 total a = let b = accepted-between (32 * total) a in omega arith
-
-pub holds-one : (x : Width) → 0 < perWord (widthBits x)
-holds-one U8 = lit< tt
-holds-one U16 = lit< tt
-holds-one U32 = lit< tt
 
 module _ (k : ℕ) (d : Lpspi) (p : Plan) (buffer : List ℕ) (budget : ℕ) (script log : List ℕ) where
   -- NO ACCESS: the transfer has ended where it begins

@@ -15,6 +15,9 @@ use lib.Pow.{pow-pos, ones-lt}
 use lib.Seq.{getD-drop, drop-nil, drop-drop, drop-at, take-all}
 use Rattle.words.specs.declared.order.BitOrder.{BitOrder}
 use Rattle.words.specs.declared.order.BitOrder.the-variants.{Msb, Lsb}
+use Rattle.words.specs.declared.width.Width.{Width}
+use Rattle.words.specs.declared.width.Width.the-variants.{U8, U16, U32}
+use Rattle.words.specs.Width.{widthBits}
 use Rattle.words.specs.Word.{joined, first, pack, unpack, reversed, perWord, laid, packed, unpackedNumber, unpackCount, unpacked}
 use Rattle.words.specs.Answer.{ok, refused, tooManyNumber}
 use Rattle.words.specs.Buffer.{dummy, wordCount, countAt, filled, tabulate, wordAt, packWords, unpackWords}
@@ -225,6 +228,12 @@ unpack-length o k total (suc n) (w ∷ ws) h l =
     ∙ omega arith
 
 -- COUNTS OF WORDS
+
+-- a word holds an element at least
+pub holds-one : (w : Width) → 0 < perWord (widthBits w)
+holds-one U8 = omega arith
+holds-one U16 = omega arith
+holds-one U32 = omega arith
 
 pub enough-words : (k total : ℕ) → 0 < perWord k → total ≤ perWord k * wordCount k total
 enough-words k total h = omega (arith, lt-div-mul-add {a = total + (perWord k - 1)} {b = perWord k} h, mul-comm (perWord k) (wordCount k total))

@@ -141,6 +141,10 @@ impl<W: Element> Walk<'_, W> {
                 self.reached.insert(Branch::Empty);
             }
             (0, _) => {
+                assert!(
+                    self.transfer.total() > 0,
+                    "an empty transfer makes no access"
+                );
                 assert_eq!((self.to_send, self.to_receive), (0, 0));
                 let ready = 4 + 4 * self.transfer.kind.sides() * self.transfer.words();
                 assert_eq!(left.accesses, ready + 3 * self.unready);
