@@ -9,7 +9,7 @@ use native.Mathlib.Omega.{arith}
 use lib.Dec.{eqb, ltb}
 use lib.ListN.{length, drop}
 use borrow.Author.Tests.{lt-ltb}
-use Rattle.manual.specs.declared.Register.the-variants.{SR, FSR}
+use Rattle.manual.specs.declared.Register.the-variants.{FSR}
 use Rattle.manual.specs.Manual.{offsetOf}
 use Rattle.words.specs.declared.transaction.Direction.{Direction}
 use Rattle.words.specs.declared.transaction.Direction.the-variants.{Tx, Rx}
@@ -31,12 +31,8 @@ use Rattle.machine.specs.Transfer.{at, startTransfer, sendTurn, receiveTurn, on
 use Rattle.runs.specs.Run.{Logged, State, start, flat, logOver, halted, codeOf, answerOf, endingOf, run}
 use Rattle.runs.proofs.Places.{Standing, start-placed}
 use Rattle.bill.specs.Unready.{unreadyIn, unreadyPolls}
-use Rattle.bill.specs.Listed.{againAfter, pollsAgain}
+use Rattle.bill.specs.Listed.{again, againAfter, pollsAgain}
 use Rattle.bill.proofs.UnreadyLaws.{Holding, Kept, entry, ok-keeps}
-
--- one access more: whether it begins a poll right behind another
-abbrev again : Bool → ℕ → ℕ
-again counts code = cond (eqb code (offsetOf SR)) (cond counts 1 0) 0
 
 -- the same over a run's log, and whether its last access read FSR
 abbrev againIn : Bool → List Logged → ℕ

@@ -9,11 +9,14 @@ use lib.ListN.{getD, drop}
 use Rattle.manual.specs.declared.Register.the-variants.{SR, FSR}
 use Rattle.manual.specs.Manual.{offsetOf}
 
--- of n accesses, two places each; `counts` tells whether the access before them read FSR
+-- 1 where an access begins a poll; `counts` tells whether the one before it read FSR
+abbrev pub again : Bool → ℕ → ℕ
+again counts code = cond (eqb code (offsetOf SR)) (cond counts 1 0) 0
+
+-- of n accesses, two places each
 abbrev pub againAfter : Bool → ℕ → List ℕ → ℕ
 againAfter counts zero log = 0
-againAfter counts (suc n) log =
-    cond (eqb (getD log 0 0) (offsetOf SR)) (cond counts 1 0) 0 + againAfter (eqb (getD log 0 0) (offsetOf FSR)) n (drop 2 log)
+againAfter counts (suc n) log = again counts (getD log 0 0) + againAfter (eqb (getD log 0 0) (offsetOf FSR)) n (drop 2 log)
 
 abbrev pub pollsAgain : ℕ → List ℕ → ℕ
 pollsAgain = againAfter false
