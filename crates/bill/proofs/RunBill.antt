@@ -27,7 +27,7 @@ use Rattle.machine.specs.Transfer.{at, startTransfer, sendTurn, receiveTurn, on
 use Rattle.runs.specs.Run.{State, start, halted, answerOf, endingOf, run}
 use Rattle.runs.proofs.Places.{Standing, counted-up, placed-run, start-placed, in-order}
 use Rattle.bill.specs.Unready.{unreadyIn, unreadyPolls}
-use Rattle.bill.proofs.UnreadyLaws.{Holding, Kept, entry, ok-due, ok-keeps}
+use Rattle.bill.proofs.UnreadyLaws.{Holding, Kept, entry, ok-done, ok-keeps}
 
 -- reads of a poll that were made
 abbrev reads : Poll → ℕ
@@ -139,6 +139,6 @@ module _ (script : List ℕ) (words : List ℕ → ℕ → ℕ) (d : Lpspi) (com
       let s : State Transfer = start (startTransfer d command send receive) in
       let u : State Transfer = run dueAccess resumed words script budget s in
       let placed = start-placed d command send receive in
-      let all = in-order send receive u (placed-run send receive words script budget s placed) .all (ok-due (u .machine) e) in
+      let all = in-order send receive u (placed-run send receive words script budget s placed) .all (ok-done (dueAccess (u .machine)) e) in
       let count = ok-keeps script words send receive Billed billed-on budget s placed refl e in
       omega (arith, all, count)

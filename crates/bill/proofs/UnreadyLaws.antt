@@ -32,15 +32,12 @@ Kept Holds =
     → Holds (resumed t (answerOf (dueAccess t) v) .phase) (resumed t (answerOf (dueAccess t) v) .work) (l ++ (entry t value ∷ [])) (n + unreadyIn (t .phase) v)
 
 -- a run ends Ok where its machine answers Ok
-ok-done : (a : Access) → endingOf a ≡ Ok → a ≡ Done Ok
+pub ok-done : (a : Access) → endingOf a ≡ Ok → a ≡ Done Ok
 ok-done (Read r) e = cc
 ok-done (Write r v) e = cc
 ok-done (SendWord i) e = cc
 ok-done (ReceiveWord i) e = cc
 ok-done (Done x) e = ap Done e
-
-pub ok-due : (t : Transfer) → endingOf (dueAccess t) ≡ Ok → dueAccess t ≡ Done Ok
-ok-due t e = ok-done (dueAccess t) e
 
 -- a run that makes no access has none
 pub no-polls : (script : List ℕ) (words : List ℕ → ℕ → ℕ) (budget : ℕ) (s : State Transfer) → halted (dueAccess (s .machine)) (s .used) (length script) ≡ true
@@ -76,4 +73,4 @@ module _ (script : List ℕ) (words : List ℕ → ℕ → ℕ) (send receive : 
   ok-keeps budget s p h e =
       let t : Transfer = run dueAccess resumed words script budget s .machine in
       subst (λ (q : Stage). Holds q (t .work) (run dueAccess resumed words script budget s .log) (unreadyPolls script words budget s))
-      (done-phase (t .phase) (t .work) (t .reset) Ok (ok-due t e)) (rw (← zero-add (unreadyPolls script words budget s)) (run-keeps budget s 0 p h))
+      (done-phase (t .phase) (t .work) (t .reset) Ok (ok-done (dueAccess t) e)) (rw (← zero-add (unreadyPolls script words budget s)) (run-keeps budget s 0 p h))
