@@ -8,7 +8,7 @@ use native.Mathlib.Nat.{div-zero, div-eq-of-lt, mul-zero}
 use native.Mathlib.Omega.{arith}
 use lib.Dec.{eqb}
 use lib.ListN.{length}
-use borrow.Author.Tests.{eq-eqb, ne-eqb}
+use borrow.Author.Tests.{eq-eqb, eqb-true}
 use Rattle.words.specs.declared.transaction.LpspiError.the-variants.{FrameSize}
 use Rattle.words.specs.declared.width.Width.{Width}
 use Rattle.words.specs.Width.{widthBits}
@@ -25,9 +25,9 @@ use Rattle.sequences.proofs.EndingLaws.{zero-is-ok}
 use Rattle.machine.specs.declared.transfer.Transfer.{Transfer}
 use Rattle.machine.specs.Transfer.{startTransfer, endedTransfer, dueAccess, resumed}
 use Rattle.runs.specs.declared.result.RunResult.{RunResult}
-use Rattle.runs.specs.Run.{State, Left, start, run, limits, endingOf, logOver}
+use Rattle.runs.specs.Run.{State, Left, start, run, limits, endingOf, ran, logOver}
 use Rattle.runs.proofs.RunLaws.{run-halted}
-use Rattle.transfers.specs.Transfers.{Plan, begun, TransferLeft, transferred, transferLeft, separatePlan, inPlacePlan, writePlan, readPlan, exchangeSeparate, exchange, writeNoRead, readNoWrite}
+use Rattle.transfers.specs.Transfers.{Plan, begun, transferStates, TransferLeft, transferred, transferLeft, separatePlan, inPlacePlan, writePlan, readPlan, exchangeSeparate, exchange, writeNoRead, readNoWrite}
 use Rattle.transfers.proofs.CallLaws.{leaves}
 use Rattle.bill.specs.Unready.{unreadyPolls}
 use Rattle.bill.specs.Listed.{pollsAgain}
@@ -36,79 +36,49 @@ use Rattle.bill.proofs.UnreadyLaws.{no-polls}
 use Rattle.bill.proofs.RunBill.{ok-exactly}
 use Rattle.bill.proofs.RunListed.{ok-listed}
 
--- any transfer, by its plan
+-- a transfer by its plan, as a run
 module _ (k : ℕ) (d : Lpspi) (p : Plan) (budget : ℕ) (script : List ℕ) where
   abbrev from : Transfer → State Transfer
   from t = run dueAccess resumed (p .words) script budget (start t)
 
-  abbrev Exact : Transfer → Type 0
-  Exact t =
-      endingOf (dueAccess (from t .machine)) ≡ Ok → length (from t .log) ≡ 4 + 4 * p .send + 4 * p .receive + 3 * unreadyPolls script (p .words) budget (start t)
+  abbrev EndsOk : Transfer → Type 0
+  EndsOk t = endingOf (dueAccess (from t .machine)) ≡ Ok
 
   -- a transfer that makes no access
   unmoved : (e : Ending) → from (endedTransfer d e) ≡ start (endedTransfer d e)
   unfolding dueAccess
   unmoved e = run-halted dueAccess resumed (p .words) script budget (start (endedTransfer d e)) refl
 
-  refused-not-ok : endingOf (dueAccess (endedTransfer d (Err FrameSize))) ≡ Ok → ⊥
+  refused-not-ok : EndsOk (endedTransfer d (Err FrameSize)) → ⊥
   unfolding dueAccess
-  refused-not-ok e = let q : Err FrameSize ≡ Ok = e in let z : _≡_ {A = ℕ} 0 1 = cc in omega arith
+  refused-not-ok e =
+      let q : Err FrameSize ≡ Ok = ap (λ (s : State Transfer). endingOf (dueAccess (s .machine))) (sym (unmoved (Err FrameSize))) ∙ e in
+      let z : _≡_ {A = ℕ} 0 1 = cc in
+      omega arith
 
-  -- a transfer that is not empty, and one that is
-  by-start : (command : ℕ) (b c : Bool) → b ≡ false → Exact (cond b (endedTransfer d Ok) (cond c (startTransfer d command (p .send) (p .receive)) (endedTransfer d (Err FrameSize))))
-  by-start command true c h e = absurd (let z : _≡_ {A = ℕ} 0 1 = cc in omega arith)
-  by-start command false true h e = ok-exactly script (p .words) d command budget (p .send) (p .receive) e
-  by-start command false false h e = absurd (refused-not-ok (ap (λ (s : State Transfer). endingOf (dueAccess (s .machine))) (sym (unmoved (Err FrameSize))) ∙ e))
+  -- a run that ends Ok is of an empty transfer, or of one that was started
+  ok-began : (Holds : Transfer → Type 0) → (p .total ≡ 0 → Holds (endedTransfer d Ok))
+      → ((command : ℕ) → EndsOk (startTransfer d command (p .send) (p .receive)) → Holds (startTransfer d command (p .send) (p .receive)))
+      → EndsOk (begun k d p) → Holds (begun k d p)
+  ok-began Holds empty started = by-tests (commanded (λ w. p .command (driverCommand d w)) (k * p .total) .value) (eqb (p .total) 0) refl (frameAccepted (k * p .total))
+    where
+      by-tests : (command : ℕ) (b : Bool) → eqb (p .total) 0 ≡ b → (c : Bool)
+          → EndsOk (cond b (endedTransfer d Ok) (cond c (startTransfer d command (p .send) (p .receive)) (endedTransfer d (Err FrameSize))))
+          → Holds (cond b (endedTransfer d Ok) (cond c (startTransfer d command (p .send) (p .receive)) (endedTransfer d (Err FrameSize))))
+      by-tests command true t c e = empty (eqb-true (p .total) 0 t)
+      by-tests command false t true e = started command e
+      by-tests command false t false e = absurd (refused-not-ok e)
 
-  none-made : (b : Bool) (t : Transfer) → b ≡ true → length (from (cond b (endedTransfer d Ok) t) .log) ≡ 0
-  none-made true t h = ap (λ (s : State Transfer). length (s .log)) (unmoved Ok)
-  none-made false t h = absurd (let z : _≡_ {A = ℕ} 0 1 = cc in omega arith)
+  empty-made : (b : Bool) (t : Transfer) → b ≡ true → length (from (cond b (endedTransfer d Ok) t) .log) ≡ 0
+  empty-made true t h = ap (λ (s : State Transfer). length (s .log)) (unmoved Ok)
+  empty-made false t h = absurd (let z : _≡_ {A = ℕ} 0 1 = cc in omega arith)
 
-  abbrev Listed : List ℕ → Transfer → Type 0
-  Listed old t =
-      endingOf (dueAccess (from t .machine)) ≡ Ok → unreadyPolls script (p .words) budget (start t) ≡ pollsAgain (length (from t .log)) (logOver old (from t .log))
-
-  empty-listed : (old : List ℕ) → Listed old (endedTransfer d Ok)
+  empty-listed : (old : List ℕ) → unreadyPolls script (p .words) budget (start (endedTransfer d Ok))
+      ≡ pollsAgain (length (from (endedTransfer d Ok) .log)) (logOver old (from (endedTransfer d Ok) .log))
   unfolding dueAccess
-  empty-listed old e =
+  empty-listed old =
       no-polls script (p .words) budget (start (endedTransfer d Ok)) refl
       ∙ ap (λ (s : State Transfer). pollsAgain (length (s .log)) (logOver old (s .log))) (sym (unmoved Ok))
-
-  listed-by-start : (command : ℕ) (old : List ℕ) (b c : Bool)
-      → Listed old (cond b (endedTransfer d Ok) (cond c (startTransfer d command (p .send) (p .receive)) (endedTransfer d (Err FrameSize))))
-  listed-by-start command old true c e = empty-listed old e
-  listed-by-start command old false true e = ok-listed script (p .words) d command budget (p .send) (p .receive) old e
-  listed-by-start command old false false e = absurd (refused-not-ok (ap (λ (s : State Transfer). endingOf (dueAccess (s .machine))) (sym (unmoved (Err FrameSize))) ∙ e))
-
-  ok-exact : (buffer log : List ℕ) → 0 < p .total → transferred k d p buffer budget script log .call .result .ending ≡ Ok
-      → transferred k d p buffer budget script log .call .result .accesses ≡ 4 + 4 * p .send + 4 * p .receive + 3 * waits k d p budget script
-  ok-exact buffer log some = by-limits (limits budget log)
-    where
-      inside : Exact (begun k d p)
-      inside =
-          by-start (commanded (λ w. p .command (driverCommand d w)) (k * p .total) .value) (eqb (p .total) 0) (frameAccepted (k * p .total))
-          (ne-eqb (p .total) 0 (λ (e : p .total ≡ 0). omega arith))
-
-      by-limits : (b : Bool) → leaves k d p budget script b buffer log .call .result .ending ≡ Ok
-          → leaves k d p budget script b buffer log .call .result .accesses ≡ 4 + 4 * p .send + 4 * p .receive + 3 * waits k d p budget script
-      by-limits true e = absurd (let z : _≡_ {A = ℕ} 0 1 = cc in omega arith)
-      by-limits false e = inside e
-
-  empty-none : (buffer log : List ℕ) → p .total ≡ 0 → transferred k d p buffer budget script log .call .result .accesses ≡ 0
-  empty-none buffer log none = by-limits (limits budget log)
-    where
-      by-limits : (b : Bool) → leaves k d p budget script b buffer log .call .result .accesses ≡ 0
-      by-limits true = refl
-      by-limits false = none-made (eqb (p .total) 0) _ (eq-eqb (p .total) 0 none)
-
-  ok-log : (buffer log : List ℕ) → transferred k d p buffer budget script log .call .result .ending ≡ Ok
-      → waits k d p budget script ≡ pollsAgain (transferred k d p buffer budget script log .call .result .accesses) (transferred k d p buffer budget script log .call .log)
-  ok-log buffer log = by-limits (limits budget log)
-    where
-      by-limits : (b : Bool) → leaves k d p budget script b buffer log .call .result .ending ≡ Ok
-          → waits k d p budget script ≡ pollsAgain (leaves k d p budget script b buffer log .call .result .accesses) (leaves k d p budget script b buffer log .call .log)
-      by-limits true e = absurd (let z : _≡_ {A = ℕ} 0 1 = cc in omega arith)
-      by-limits false e = listed-by-start (commanded (λ w. p .command (driverCommand d w)) (k * p .total) .value) log (eqb (p .total) 0) (frameAccepted (k * p .total)) e
 
 -- n is 0 for the empty transfer and, at the three widths, at least 1 for every other
 no-words : (k : ℕ) → wordCount k 0 ≡ 0
@@ -134,31 +104,52 @@ module _ (k : ℕ) (d : Lpspi) (budget : ℕ) (script log : List ℕ) (p : Plan)
   abbrev call : Left
   call = transferred k d p buffer budget script log .call
 
-  ended-ok : call .number ≡ 0 → call .result .ending ≡ Ok
-  ended-ok = by-limits (limits budget log)
+  abbrev end : State Transfer
+  end = transferStates k d p script budget
+
+  -- the number 0 comes past the test for 5, of a run that ended Ok
+  passed : call .number ≡ 0 → (call ≡ ran dueAccess d log end) × (endingOf (dueAccess (end .machine)) ≡ Ok)
+  passed = by-limits (limits budget log)
     where
-      by-limits : (b : Bool) → leaves k d p budget script b buffer log .call .number ≡ 0 → leaves k d p budget script b buffer log .call .result .ending ≡ Ok
+      by-limits : (b : Bool) → leaves k d p budget script b buffer log .call .number ≡ 0
+          → (leaves k d p budget script b buffer log .call ≡ ran dueAccess d log end) × (endingOf (dueAccess (end .machine)) ≡ Ok)
       by-limits true h = absurd (omega arith)
-      by-limits false h = zero-is-ok _ h
+      by-limits false h = (refl, zero-is-ok _ h)
+
+  exact : call .number ≡ 0 → 0 < p .total → call .result .accesses ≡ 4 + 4 * p .send + 4 * p .receive + 3 * waits k d p budget script
+  exact ok some =
+      ap (λ (x : Left). x .result .accesses) (passed ok .0)
+      ∙ ok-began k d p budget script
+      (λ (t : Transfer). length (run dueAccess resumed (p .words) script budget (start t) .log) ≡ 4 + 4 * p .send + 4 * p .receive + 3 * unreadyPolls script (p .words) budget (start t))
+      (λ (z : p .total ≡ 0). absurd (omega arith)) (λ command. ok-exactly script (p .words) d command budget (p .send) (p .receive)) (passed ok .1)
+
+  shown : call .number ≡ 0 → waits k d p budget script ≡ pollsAgain (call .result .accesses) (call .log)
+  shown ok =
+      ok-began k d p budget script
+      (λ (t : Transfer). unreadyPolls script (p .words) budget (start t)
+      ≡ (let l = run dueAccess resumed (p .words) script budget (start t) .log in pollsAgain (length l) (logOver log l)))
+      (λ (z : p .total ≡ 0). empty-listed k d p budget script log) (λ command. ok-listed script (p .words) d command budget (p .send) (p .receive) log) (passed ok .1)
+      ∙ ap (λ (x : Left). pollsAgain (x .result .accesses) (x .log)) (sym (passed ok .0))
+
+  none : p .total ≡ 0 → call .result .accesses ≡ 0
+  none z = by-limits (limits budget log)
+    where
+      by-limits : (b : Bool) → leaves k d p budget script b buffer log .call .result .accesses ≡ 0
+      by-limits true = refl
+      by-limits false = empty-made k d p budget script (eqb (p .total) 0) _ (eq-eqb (p .total) 0 z)
 
   pub plan-bill : (each : ℕ) → 4 * p .send + 4 * p .receive ≡ each * wordCount k (p .total)
       → AccessBill k (p .total) each (waits k d p budget script) (call .number) (call .result .accesses) (call .log)
   plan-bill each words = record {
-    exactly = λ ok some. exact ok (words-of-some k (p .total) some);
+    exactly = λ ok some. omega (arith, words, exact ok (words-of-some k (p .total) some));
     none = none;
-    atMost = λ ok. by-total (p .total) refl ok;
-    listed = λ ok. ok-log k d p budget script buffer log (ended-ok ok);
+    atMost = by-total (p .total) refl;
+    listed = shown;
   }
     where
-      exact : call .number ≡ 0 → 0 < p .total → call .result .accesses ≡ 4 + each * wordCount k (p .total) + 3 * waits k d p budget script
-      exact ok some = omega (arith, words, ok-exact k d p budget script buffer log some (ended-ok ok))
-
-      none : p .total ≡ 0 → call .result .accesses ≡ 0
-      none = empty-none k d p budget script buffer log
-
       by-total : (n : ℕ) → p .total ≡ n → call .number ≡ 0 → call .result .accesses ≤ 4 + each * wordCount k (p .total) + 3 * waits k d p budget script
       by-total zero t ok = omega (arith, none t)
-      by-total (suc n) t ok = omega (arith, exact ok (omega arith))
+      by-total (suc n) t ok = omega (arith, words, exact ok (omega arith))
 
 -- THE FOUR TRANSFERS, of what the functions return: 8 accesses a word where it goes both ways, 4 where it goes one way
 module _ (k : ℕ) (d : Lpspi) (budget : ℕ) (script log : List ℕ) {r : RunResult} {log′ buffer′ : List ℕ} where
