@@ -4,3 +4,4 @@ mod PairLaws
 pub mod AnswerLaws
 pub mod HostAgreement
 pub mod HostBill
+pub mod HostTolerance

@@ -1,3 +1,4 @@
 -- Read in this order.
 pub mod Values
 pub mod Calls
+pub mod ClockSet

@@ -38,6 +38,15 @@ clock-reads c hs hp hd hv = record {
 computed : (source clock : ℕ) → 0 < source → 0 < clock → clocked source clock ≡ record { number = 0; configs = configsOf (halfDivider source clock) }
 computed source clock hs hc = simp (ne-eqb source 0 (λ (e : source ≡ 0). omega arith), ne-eqb clock 0 (λ (e : clock ≡ 0). omega arith))
 
+-- where neither is 0 the answer is Ok
+pub clocked-ok : (source clock : ℕ) → 0 < source → 0 < clock → clocked source clock .number ≡ 0
+clocked-ok source clock hs hc = rw (computed source clock hs hc)
+
+-- and DBT and SCKDIV fit a byte
+pub clocked-fits : (source clock : ℕ) → 0 < source → 0 < clock
+    → (clocked source clock .configs .dbt < 256) × (clocked source clock .configs .sckdiv < 256)
+clocked-fits source clock hs hc = rw (computed source clock hs hc) (omega arith, omega arith)
+
 -- READ BACK, of the clock that is answered: SCKDIV = 2(h − 1), the others h − 1
 pub clocked-reads : (source clock : ℕ) → 0 < source → 0 < clock → ClockReads (clockWord (clocked source clock .configs)) (configsOf (halfDivider source clock))
 clocked-reads source clock hs hc =

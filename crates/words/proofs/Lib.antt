@@ -3,6 +3,7 @@ pub mod BufferLaws
 pub mod LaidLaws
 pub mod CommandLaws
 pub mod ClockLaws
+pub mod ToleranceLaws
 mod Spread
 mod Setter
 mod SetterValues

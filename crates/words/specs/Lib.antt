@@ -6,3 +6,4 @@ pub mod Buffer
 pub mod Longer
 pub mod Command
 pub mod Clock
+pub mod Tolerance

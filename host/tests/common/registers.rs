@@ -3,6 +3,7 @@
 pub const PARAM: u32 = 0x04;
 pub const CR: u32 = 0x10;
 pub const SR: u32 = 0x14;
+pub const CCR: u32 = 0x40;
 pub const FSR: u32 = 0x5C;
 pub const TCR: u32 = 0x60;
 pub const TDR: u32 = 0x64;
