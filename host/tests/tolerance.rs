@@ -58,9 +58,11 @@ impl Seen {
     }
 
     fn all_above(&self, least: u32) {
-        let counts = [self.equal, self.reached, self.low_clamp, self.high_clamp];
-        assert!(counts.iter().all(|count| *count > least), "{self:?}");
-        assert!(self.both_clamps > least, "{self:?}");
+        let clamps = [self.low_clamp, self.high_clamp, self.both_clamps];
+        let fewest = clamps
+            .into_iter()
+            .fold(self.equal.min(self.reached), u32::min);
+        assert!(fewest > least, "{self:?}");
     }
 }
 
@@ -85,7 +87,7 @@ fn every_pair_for_small_clocks() {
     seen.all_above(500);
 }
 
-/// The figures around both clamps, the least and the greatest, each with each in both orders, for clocks of any size.
+/// The figures around both clamps, the least and the greatest, each with each in both orders, for clocks below 2^24.
 #[test]
 fn pairs_at_the_clamps() {
     let mut random = Random::new("pairs_at_the_clamps");
@@ -95,9 +97,7 @@ fn pairs_at_the_clamps() {
         // The clamp to 3 acts up to 4c, and h is 3 up to 6c; it is 128 from 254c + 1 on, and the clamp to 128 acts from 256c + 1 on.
         let edges = [4, 6, 254, 256].map(|times| times * u64::from(wanted));
         let near = edges.iter().flat_map(|edge| edge - 3..=edge + 3);
-        let mut figures: Vec<u32> = near
-            .filter_map(|figure| u32::try_from(figure).ok())
-            .collect();
+        let mut figures: Vec<u32> = near.map(|figure| u32::try_from(figure).unwrap()).collect();
         figures.extend([1, u32::MAX]);
         for s in &figures {
             for t in &figures {
@@ -132,7 +132,7 @@ fn random_pairs() {
     seen.all_above(500);
 }
 
-/// Between the clamps the bound is reached for every number of steps k: from a figure at the upper edge of its divider, D = 2ck + 1 does it.
+/// Between the clamps the bound is reached for every k: from a figure at its divider's upper edge, D = 2ck + 1 moves SCKDIV by 2(k + 1).
 #[test]
 fn the_bound_is_reached() {
     let mut random = Random::new("the_bound_is_reached");
@@ -143,9 +143,9 @@ fn the_bound_is_reached() {
             let s = 2 * wanted * half;
             let t = s + 2 * wanted * steps + 1;
             let [u, v] = [s, t].map(|source| sckdiv(clock(source, wanted).unwrap()));
-            let inputs = format!("clock {wanted}, sources {s} and {t}");
-            assert_eq!((u, v - u), (2 * (half - 1), 2 * (steps + 1)), "{inputs}");
-            assert_eq!(u64::from(v - u), bound(wanted, s, t), "{inputs}");
+            let moved = (2 * (half - 1), 2 * (half + steps));
+            assert_eq!((u, v), moved, "clock {wanted}, sources {s} and {t}");
+            assert_eq!(u64::from(moved.1 - moved.0), bound(wanted, s, t));
             random.cases.count();
         }
     }
@@ -161,14 +161,14 @@ fn a_figure_above_the_source_keeps_the_clock() {
         let source = 1 + random.below(figure as usize) as u32;
         let divider = u64::from(sckdiv(clock(figure, wanted).unwrap())) + 2;
         let [wanted, figure, source] = [wanted, figure, source].map(u64::from);
-        let bounded = source <= wanted * divider;
+        let keeps = source <= wanted * divider;
         // Past 256 times the clock the clamp has its way, whatever the figure.
         assert_eq!(
-            bounded,
+            keeps,
             source <= 256 * wanted,
             "source {source}, figure {figure}, clock {wanted}"
         );
-        *(match (bounded, figure <= 256 * wanted) {
+        *(match (keeps, figure <= 256 * wanted) {
             (true, true) => &mut kept,
             (true, false) => &mut clamped,
             (false, _) => &mut over,
@@ -199,12 +199,12 @@ fn a_run_sets_the_same_word() {
             .collect();
         let word = clock(source, wanted).unwrap();
         assert_eq!(ccr, [word], "source {source}, clock {wanted}");
-        let [sckdiv, dbt, _, _] = word.to_le_bytes();
+        let [low, dbt, _, _] = word.to_le_bytes();
         assert_eq!(
             run.driver,
             Driver {
                 dbt,
-                sckdiv,
+                sckdiv: low,
                 ..driver
             }
         );
@@ -227,18 +227,19 @@ fn second_sckdiv(source: u32, wanted: u32) -> u32 {
     2 * (second_entry(source, wanted).1 - 1)
 }
 
-/// Order and bound do not hold of the second clock entry: SCKDIV falls where p rises. The smallest figures that show it, by the larger and
-/// then by the smaller: 131 and 257 for a clock of 1 (order), 195 and 257 (bound). The nearest are 256 and 257.
+/// Order and bound do not hold of the second clock entry, which is not built: this holds document 02's rule for it, and no code, against
+/// docs/CALLS.md. The smallest figures that show it, by the larger and then by the smaller: 131 and 257 for a clock of 1 (order), 195 and
+/// 257 (bound). The nearest are 256 and 257.
 #[test]
 fn not_of_a_second_entry_with_a_prescaler() {
     for wanted in 1..=3 {
         let edge = 256 * wanted;
         let sckdivs: Vec<u32> = (1..=edge + 1).map(|s| second_sckdiv(s, wanted)).collect();
-        let sckdiv = |source: u32| sckdivs[source as usize - 1];
+        let second = |source: u32| sckdivs[source as usize - 1];
         let pairs = || (1..=edge + 1).flat_map(|t| (1..=t).map(move |s| (s, t)));
-        let unordered = pairs().find(|&(s, t)| sckdiv(s) > sckdiv(t));
+        let unordered = pairs().find(|&(s, t)| second(s) > second(t));
         let further =
-            |&(s, t): &(u32, u32)| u64::from(sckdiv(s).abs_diff(sckdiv(t))) > bound(wanted, s, t);
+            |&(s, t): &(u32, u32)| u64::from(second(s).abs_diff(second(t))) > bound(wanted, s, t);
         let unbounded = pairs().find(further);
         assert_eq!(unordered, Some((130 * wanted + 1, edge + 1)));
         assert_eq!(unbounded, Some((194 * wanted + 1, edge + 1)));

@@ -1,5 +1,5 @@
--- THE CRYSTAL TOLERANCE (document 02, No. 13) of the words that a host is handed by `lpspi_clock`, and of what `lpspi_disabled` of kind 0,
--- `set_clock_hz`, leaves it with.
+-- THE CRYSTAL TOLERANCE (document 02, No. 13) of the words that a host is handed by `lpspi_clock`; and `lpspi_disabled` of kind 0,
+-- `set_clock_hz`, has written such a word to CCR where it answers 0.
 -- Assumes nothing.
 use Prim.Native.Nat.{ℕ, _%_, _<_}
 use mathlib.Core.Bool.{cond}
@@ -55,15 +55,15 @@ module _ (kind source clock word budget : ℕ) (script log : List ℕ) {driver a
   abbrev next : Lpspi
   next = withClock (clocked source clock .configs) (driverOf word)
 
-  next-back : 0 < source → 0 < clock → driverOf driver ≡ next
-  next-back hs hc =
-      let fits = clocked-fits source clock hs hc in
+  next-back : driverOf driver ≡ next
+  next-back =
+      let fits = clocked-fits source clock in
       ap (λ (x : HostLeft). driverOf (x .driver)) handed
       ∙ ap (λ (d : Lpspi). driverOf (driverLeft word d)) (set .driver)
       ∙ driver-back word next (fits .0) (fits .1)
 
-  pub host-clock-set : 0 < source → 0 < clock → ClockSet (driverOf word) source clock (driverOf driver) accesses log′
-  host-clock-set hs hc =
+  pub host-clock-set : ClockSet (driverOf word) source clock (driverOf driver) accesses log′
+  host-clock-set =
       let a = ap (λ (x : HostLeft). x .accesses) handed in
       let l = ap (λ (x : HostLeft). x .log) handed in
-      record { ccr = rw (a, l) (set .ccr); driver = next-back hs hc }
+      record { ccr = rw (a, l) (set .ccr); driver = next-back }

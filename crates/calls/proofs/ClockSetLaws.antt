@@ -1,7 +1,7 @@
 -- Where `set_clock_hz` answers 0 it has written CCR once, with the word that the clock entry answers, and the next driver value keeps that
 -- word's DBT and SCKDIV.
 -- Assumes nothing.
-use Prim.Native.Nat.{ℕ, zero, suc}
+use Prim.Native.Nat.{ℕ, zero, suc, _<_}
 use mathlib.Core.Bool.{Bool, true, false, cond}
 use mathlib.Core.List.{List, [], _∷_, _++_, append-nil, append-assoc}
 use mathlib.Core.Path.{_≡_, refl, sym, ap, ap₂, _∙_}
@@ -15,6 +15,8 @@ use Rattle.manual.specs.declared.Register.the-variants.{CR, CCR}
 use Rattle.manual.specs.Manual.{readField}
 use Rattle.words.specs.declared.clock.ClockConfigs.{ClockConfigs}
 use Rattle.words.specs.Clock.{clocked, clockWord}
+use Rattle.words.specs.Tolerance.{wordFor, Tolerance}
+use Rattle.words.proofs.ToleranceLaws.{tolerance}
 use Rattle.sequences.specs.declared.access.Access.{Access}
 use Rattle.sequences.specs.declared.access.Access.the-variants.{Read}
 use Rattle.sequences.specs.declared.access.Ending.the-variants.{Ok}
@@ -174,3 +176,13 @@ module _ (d : Lpspi) (source clock budget : ℕ) (script log : List ℕ) where
 
   pub clock-set : SetsClock (setClockHzRun d source clock budget script log)
   clock-set = by-limits (limits budget log) refl
+
+-- THE TOLERANCE of the words that two such runs write to CCR
+pub set-tolerance : (c s t : ℕ) → 0 < c → 0 < s → 0 < t → {d d′ next next′ : Lpspi} {m n : ℕ} {log log′ : List ℕ}
+    → ClockSet d s c next m log → ClockSet d′ t c next′ n log′
+    → (u v : ℕ) → writesTo CCR m log ≡ u ∷ [] → writesTo CCR n log′ ≡ v ∷ [] → Tolerance c s t u v
+set-tolerance c s t hc hs ht x y u v eu ev =
+    let first : List ℕ → ℕ = λ l. getD l 0 0 in
+    let u-is : u ≡ wordFor s c = ap first (sym eu ∙ x .ccr) in
+    let v-is : v ≡ wordFor t c = ap first (sym ev ∙ y .ccr) in
+    rw (u-is, v-is) (tolerance c s t hc hs ht)

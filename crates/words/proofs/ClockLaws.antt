@@ -2,6 +2,7 @@
 -- times that clock.
 -- Assumes nothing.
 use Prim.Native.Nat.{ℕ, _+_, _*_, _-_, _/_, _<_, _≤_}
+use mathlib.Core.Bool.{Bool, true, false, cond}
 use mathlib.Core.List.{List, [], _∷_}
 use mathlib.Core.Logic.{_↔_}
 use mathlib.Core.Path.{_≡_, _∙_}
@@ -12,8 +13,10 @@ use Rattle.manual.specs.declared.Field.the-variants.{Ccr}
 use Rattle.manual.specs.Manual.{readField, Setting}
 use Rattle.manual.proofs.ManualLaws.{read-all}
 use Rattle.words.specs.declared.clock.ClockConfigs.{ClockConfigs}
+use Rattle.words.specs.declared.clock.ClockResult.the-variants.{ZeroClock}
 use borrow.Author.Tests.{ne-eqb}
-use Rattle.words.specs.Clock.{halfDivider, configsOf, clocked, clockWord, SckAtMost}
+use lib.Dec.{eqb}
+use Rattle.words.specs.Clock.{halfDivider, configsOf, ClockAnswer, clockAnswer, clocked, clockWord, SckAtMost}
 
 -- the four fields of CCR in a word
 pub record ClockReads (w : ℕ) (c : ClockConfigs) : Type 0 where
@@ -42,10 +45,19 @@ computed source clock hs hc = simp (ne-eqb source 0 (λ (e : source ≡ 0). omeg
 pub clocked-ok : (source clock : ℕ) → 0 < source → 0 < clock → clocked source clock .number ≡ 0
 clocked-ok source clock hs hc = rw (computed source clock hs hc)
 
--- and DBT and SCKDIV fit a byte
-pub clocked-fits : (source clock : ℕ) → 0 < source → 0 < clock
-    → (clocked source clock .configs .dbt < 256) × (clocked source clock .configs .sckdiv < 256)
-clocked-fits source clock hs hc = rw (computed source clock hs hc) (omega arith, omega arith)
+-- DBT and SCKDIV fit a byte, whatever the answer
+pub clocked-fits : (source clock : ℕ) → (clocked source clock .configs .dbt < 256) × (clocked source clock .configs .sckdiv < 256)
+clocked-fits source clock = by-tests (eqb source 0) (eqb clock 0)
+  where
+    answer : Bool → Bool → ClockAnswer
+    answer a b =
+        cond a (clockAnswer ZeroClock)
+        (cond b (clockAnswer ZeroClock) (record { number = 0; configs = configsOf (halfDivider source clock) }))
+
+    by-tests : (a b : Bool) → (answer a b .configs .dbt < 256) × (answer a b .configs .sckdiv < 256)
+    by-tests true b = (omega arith, omega arith)
+    by-tests false true = (omega arith, omega arith)
+    by-tests false false = (omega arith, omega arith)
 
 -- READ BACK, of the clock that is answered: SCKDIV = 2(h − 1), the others h − 1
 pub clocked-reads : (source clock : ℕ) → 0 < source → 0 < clock → ClockReads (clockWord (clocked source clock .configs)) (configsOf (halfDivider source clock))

@@ -61,7 +61,8 @@ module _ (c s t : ℕ) (hc : 0 < c) (hs : 0 < s) (ht : 0 < t) where
           let d : distance s t ≡ s - t = omega arith in
           rw d (omega (arith, never-smaller c t s hc ht l, not-further c t s hc ht l))
 
-  -- THE TOLERANCE of the words that the first clock entry answers
+  -- THE TOLERANCE of the words that the first clock entry answers. `omega` compares the bound with the proved one, so that a smaller bound
+  -- is refused as a number (edit `tolerance_without_step`)
   pub tolerance : Tolerance c s t (wordFor s c) (wordFor t c)
   tolerance = record {
     bounded = le-trans in-bound (omega arith);
@@ -69,6 +70,6 @@ module _ (c s t : ℕ) (hc : 0 < c) (hs : 0 < s) (ht : 0 < t) where
     ordered = λ l. never-smaller c s t hc hs l;
   }
 
--- A FIGURE THAT IS TOO HIGH is on the safe side: SCK of the true source s is at most the wanted clock, as it would be by its own figure
+-- A FIGURE t THAT IS TOO HIGH is on the safe side: SCK of the true source s, s ≤ 256c, is at most the wanted clock
 pub figure-above : (c s t : ℕ) → 0 < c → 0 < s → s ≤ t → s ≤ 256 * c → SckAtMost s (wordFor t c) c
 figure-above c s t hc hs l h = le-trans (sck-at-most s c hs hc .1 h) (mul-le-mul-left c (omega (arith, never-smaller c s t hc hs l)))
