@@ -22,20 +22,17 @@ use Rattle.c_api.specs.HostRun.{HostLeft, hostLeft, driverOf, driverLeft
 use Rattle.c_api.specs.HostCall.{disabledBy}
 use Rattle.c_api.proofs.NumberLaws.{driver-back}
 
--- `lpspi_clock`: where neither is 0, the number is 0 and the word is the clock entry's, whatever stood there
+-- `lpspi_clock`: where neither is 0 the word is the clock entry's, whatever stood there
 host-word : (source clock found : ℕ) {number word : ℕ} → 0 < source → 0 < clock
-    → answered number word ≡ kept (clockAnswered source clock) found → (number ≡ 0) × (word ≡ wordFor source clock)
+    → answered number word ≡ kept (clockAnswered source clock) found → word ≡ wordFor source clock
 host-word source clock found hs hc e =
-    let ok = clocked-ok source clock hs hc in (
-      ap (λ (a : Answer). a .number) e ∙ ok,
-      ap (λ (a : Answer). a .value) e ∙ ap (λ (n : ℕ). cond (eqb n 0) (wordFor source clock) found) ok,
-    )
+    ap (λ (a : Answer). a .value) e ∙ ap (λ (n : ℕ). cond (eqb n 0) (wordFor source clock) found) (clocked-ok source clock hs hc)
 
 -- THE TOLERANCE of two words that `lpspi_clock` hands over: the equations are its contract's
 pub host-tolerance : (c s t found found′ : ℕ) {m n u v : ℕ} → 0 < c → 0 < s → 0 < t → answered m u ≡ kept (clockAnswered s c) found
     → answered n v ≡ kept (clockAnswered t c) found′ → Tolerance c s t u v
 host-tolerance c s t found found′ hc hs ht e f =
-    rw (host-word s c found hs hc e .1, host-word t c found′ ht hc f .1) (tolerance c s t hc hs ht)
+    rw (host-word s c found hs hc e, host-word t c found′ ht hc f) (tolerance c s t hc hs ht)
 
 -- THE CLOCK IS SET where `lpspi_disabled` of kind 0 answers 0: the equation is its contract's
 module _ (kind source clock word budget : ℕ) (script log : List ℕ) {driver accesses answers : ℕ} {log′ : List ℕ} (h : kind % 5 ≡ 0)
