@@ -3,15 +3,16 @@
 //! The archive is looked for in `LPSPI_STATICLIB_DIR` if that is set,
 //! otherwise in `../target/staticlib` beside this crate.
 //!
-//! Tests that need the original, or one of the programs, are ignored where it is
-//! missing. Where `CI` is `true` nothing is ignored: without the original the tests
-//! are not built, and those of a missing program fail.
+//! Tests that need the original, one of the programs or the kit are ignored where it
+//! is missing. Where `CI` is `true` nothing is ignored: without the original the tests
+//! are not built, and those of a missing program, or of the kit, fail.
 
 #[path = "original/build/place.rs"]
 mod place;
 
 use std::env;
 use std::path::{Path, PathBuf};
+use std::process::Command;
 
 const DIR_VARIABLE: &str = "LPSPI_STATICLIB_DIR";
 
@@ -55,5 +56,10 @@ fn find(package: &Path) {
         if place::ci() || program.is_file() {
             println!("cargo::rustc-cfg={name}");
         }
+    }
+    println!("cargo::rustc-check-cfg=cfg(kit)");
+    println!("cargo::rerun-if-env-changed=PATH");
+    if place::ci() || Command::new("rt").arg("version").output().is_ok() {
+        println!("cargo::rustc-cfg=kit");
     }
 }

@@ -2,26 +2,16 @@
 //!
 //! The prover checks what a contract says; that there is one, and that no public one has a `requires`, is read off the sources here.
 
-use std::fs;
-use std::path::{Path, PathBuf};
+#[path = "common/sources.rs"]
+mod sources;
 
-fn sources(folder: &Path, found: &mut Vec<PathBuf>) {
-    for entry in fs::read_dir(folder).unwrap() {
-        let path = entry.unwrap().path();
-        if path.is_dir() {
-            sources(&path, found);
-        } else if path.extension().is_some_and(|e| e == "rt") {
-            found.push(path);
-        }
-    }
-}
+use sources::{code, sources};
+use std::fs;
+use std::path::Path;
 
 /// The signature and contract of each public function: what stands before its body.
 fn public_functions(text: &str) -> Vec<String> {
-    let lines: Vec<&str> = text
-        .lines()
-        .map(|line| line.split("//").next().unwrap().trim_end())
-        .collect();
+    let lines = code(text);
     let public = |line: &str| {
         let line = line.trim_start();
         line.starts_with("pub ") && format!(" {line}").contains(" fn ")
@@ -51,9 +41,7 @@ fn public_functions_have_contracts() {
             continue;
         }
         let before = seen;
-        let mut files = Vec::new();
-        sources(&source, &mut files);
-        for file in files {
+        for file in sources(&source) {
             for function in public_functions(&fs::read_to_string(&file).unwrap()) {
                 seen += 1;
                 assert!(

@@ -1,16 +1,16 @@
 -- Whole buffers as words, for every width and both orders.
 -- Assumes nothing.
-use Prim.Native.Nat.{ℕ, zero, suc, _+_, _*_, _-_, _%_, _^_, _<_, _≤_, min}
+use Prim.Native.Nat.{ℕ, zero, suc, _+_, _*_, _-_, _/_, _%_, _^_, _<_, _≤_, min}
 use mathlib.Core.Bool.{Bool, true, false, cond}
 use mathlib.Core.Path.{_≡_, refl, sym, ap, ap₂, _∙_, subst}
 use mathlib.Core.List.{List, [], _∷_, _++_, append-nil, append-assoc}
 use native.Mathlib.Numerals.{add-one, sub-one}
 use native.Mathlib.Omega.{arith}
-use native.Mathlib.Nat.{mul-suc, suc-mul, mul-zero, mul-comm, le-div-iff-mul-le, sub-zero, zero-sub, sub-eq-zero-of-le, zero-min, min-zero, suc-min-suc, suc-sub-suc, lt-div-mul-add, mul-le-mul-left}
+use native.Mathlib.Nat.{le-trans, mul-one, mul-add, mul-div-le, mul-suc, mul-zero, mul-comm, sub-zero, zero-sub, sub-eq-zero-of-le, zero-min, min-zero, suc-min-suc, suc-sub-suc, lt-div-mul-add, mul-le-mul-left}
 use borrow.Author.Tests.{leb-true, leb-false, eqb-true, le-leb, lt-leb}
 use borrow.Rule.Slice.PartMut.{putMid}
 use lib.Dec.{leb, eqb}
-use lib.ListN.{length, getD, take, drop, set, length-drop, length-append, drop-of-length-le}
+use lib.ListN.{length, getD, take, drop, set, length-drop, length-append, drop-of-length-le, take-append-drop}
 use lib.Pow.{pow-pos, ones-lt}
 use lib.Seq.{getD-drop, drop-nil, drop-drop, drop-at, take-all}
 use Rattle.words.specs.declared.order.BitOrder.{BitOrder}
@@ -172,12 +172,20 @@ pub store-stop : (n m : ℕ) (f g : ℕ → ℕ) (bs ws : List ℕ) → n ≤ m 
     → ws ≡ laid (tabulate n f) bs → ws ≡ laid (tabulate m g) bs
 store-stop n m f g bs ws h s e ew = ew ∙ laid-stop n m f bs h s ∙ ap (λ (l : List ℕ). laid l bs) (tabulate-same m f g e)
 
--- a part of a buffer that comes back with elements laid over it
-put-laid : (at : ℕ) (bs xs ys : List ℕ) → ys ≡ laid xs (take (length bs - at) (drop at bs)) → putMid at (length bs - at) bs ys ≡ take at bs ++ laid xs (drop at bs)
-put-laid at bs xs ys e =
-    let gone : drop (length bs - at) (drop at bs) ≡ [] = drop-of-length-le (drop at bs) {i = length bs - at} (omega (arith, length-drop at bs)) in
-    let whole : take (length bs - at) (drop at bs) ≡ drop at bs = take-all (length bs - at) (drop at bs) (omega (arith, length-drop at bs)) in
-    ap (λ (l : List ℕ). take at bs ++ l) (ap (λ (l : List ℕ). ys ++ l) gone ∙ append-nil ys ∙ e ∙ ap (laid xs) whole)
+-- elements that have room in the first m places, or are laid over all there are
+laid-part : (m : ℕ) (xs bs : List ℕ) → (m < length bs → length xs ≤ m) → laid xs (take m bs) ++ drop m bs ≡ laid xs bs
+laid-part m [] bs h = take-append-drop m bs
+laid-part zero (x ∷ xs) [] h = refl
+laid-part zero (x ∷ xs) (b ∷ bs) h = let l = h (omega arith) in absurd (omega arith)
+laid-part (suc m) (x ∷ xs) [] h = refl
+laid-part (suc m) (x ∷ xs) (b ∷ bs) h = ap (λ (l : List ℕ). x ∷ l) (laid-part m xs bs (λ (l : m < length bs). let r = h (omega arith) in omega arith))
+
+-- a part of a buffer, m places from `at` on, that comes back with elements laid over it
+put-laid : (at m : ℕ) (bs xs ys : List ℕ) → ys ≡ laid xs (take m (drop at bs)) → (m < length bs - at → length xs ≤ m)
+    → putMid at m bs ys ≡ take at bs ++ laid xs (drop at bs)
+put-laid at m bs xs ys e h =
+    ap (λ (l : List ℕ). take at bs ++ l)
+    (ap (λ (l : List ℕ). l ++ drop m (drop at bs)) e ∙ laid-part m xs (drop at bs) (rw (length-drop at bs) h))
 
 -- UNPACKING WORDS
 
@@ -227,6 +235,18 @@ unpack-length o k total (suc n) (w ∷ ws) h l =
     ∙ ap₂ (λ (a b : ℕ). a + b) (length-unpack o k (min (perWord k) total) w) (unpack-length o k (total - perWord k) n ws (omega arith) (omega arith))
     ∙ omega arith
 
+-- whole words do not depend on how much longer the transfer is
+pub full-prefix : (o : BitOrder) (k total n : ℕ) (ws : List ℕ) → perWord k * n ≤ total
+    → unpackWords o k (perWord k * n) (take n ws) ≡ unpackWords o k total (take n ws)
+full-prefix o k total zero ws h = refl
+full-prefix o k total (suc n) [] h = refl
+full-prefix o k total (suc n) (w ∷ ws) h =
+    let m = mul-suc (perWord k) n in
+    let here : min (perWord k) (perWord k * suc n) ≡ min (perWord k) total = omega arith in
+    let left : perWord k * suc n - perWord k ≡ perWord k * n = omega arith in
+    ap₂ (λ (c : ℕ) (l : List ℕ). unpack o k c w ++ l) here
+    (ap (λ (r : ℕ). unpackWords o k r (take n ws)) left ∙ full-prefix o k (total - perWord k) n ws (omega arith))
+
 -- COUNTS OF WORDS
 
 -- a word holds an element at least
@@ -238,18 +258,19 @@ holds-one U32 = omega arith
 pub enough-words : (k total : ℕ) → 0 < perWord k → total ≤ perWord k * wordCount k total
 enough-words k total h = omega (arith, lt-div-mul-add {a = total + (perWord k - 1)} {b = perWord k} h, mul-comm (perWord k) (wordCount k total))
 
-no-word-more : (k i n : ℕ) → 0 < perWord k → i < wordCount k n → perWord k * i < n
-no-word-more k i n h l =
-    let m : suc i * perWord k ≤ n + (perWord k - 1) = le-div-iff-mul-le h .0 l in
-    omega (arith, suc-mul i (perWord k), mul-comm (perWord k) i)
-
--- the loop over n words, those received or those that total and buffer have places for: at word i, and at the end
-pub words-inside : (k i n c e total len size : ℕ) → 0 < perWord k → i < n → n ≡ min len c → c ≡ wordCount k e → e ≡ min total size → (i < len) × (perWord k * i ≤ total)
-words-inside k i n c e total len size h l en ec ee = let m = no-word-more k i e h (omega arith) in (omega arith, omega arith)
-
-pub words-end : (k i n c e total len size : ℕ) → 0 < perWord k → i ≡ n → n ≡ min len c → c ≡ wordCount k e → e ≡ min total size
-    → (i ≤ len) × (i < len → min total size ≤ perWord k * i)
-words-end k i n c e total len size h ei en ec ee = (omega arith, λ (l : i < len). let s : i ≡ wordCount k e = omega arith in rw (← ee, s) (enough-words k e h))
+-- n words: those received, or as many as total and buffer hold whole; what is left of either is less than a word
+pub whole-words : (k n e total len size : ℕ) → 0 < perWord k → n ≡ min len (e / perWord k) → e ≡ min total size
+    → (n ≤ len) × (perWord k * n ≤ total) × (perWord k * n ≤ size) × (n < len → min total size ≤ perWord k * (n + 1))
+whole-words k n e total len size h en ee =
+    let q = e / perWord k in
+    let few : n ≤ q = omega arith in
+    let low : perWord k * n ≤ e = le-trans (mul-le-mul-left (perWord k) few) (mul-div-le e (perWord k)) in
+    let high : e < q * perWord k + perWord k = lt-div-mul-add {a = e} {b = perWord k} h in (
+      omega arith,
+      omega arith,
+      omega arith,
+      λ (l : n < len). let same : n ≡ q = omega arith in rw (← ee, same) (omega (arith, mul-comm q (perWord k), mul-add (perWord k) q 1, mul-one (perWord k))),
+    )
 
 -- ONE WORD, with the number
 
@@ -290,14 +311,15 @@ entry-pack-unpack o k w bs h l =
     rw all (simp (length-unpack o k (length bs) w, e) (ap ok (pack-unpack o k (length bs) w)))
 
 -- THE LOOP: it lays word i at its place, and may stop where total or buffer end
-pub unpack-step : (o : BitOrder) (k total i at c w : ℕ) (ws bs out ys : List ℕ) → i < length ws → perWord k * i ≤ total
+pub unpack-step : (o : BitOrder) (k total i at m c w : ℕ) (ws bs out ys : List ℕ) → i < length ws → perWord k * i ≤ total
     → at ≡ perWord k * i → c ≡ countAt k total i → w ≡ getD ws i 0
     → out ≡ laid (unpackWords o k total (take i ws)) bs
-    → ys ≡ laid (unpack o k c w) (take (length out - at) (drop at out))
-    → putMid at (length out - at) out ys ≡ laid (unpackWords o k total (take (i + 1) ws)) bs
-unpack-step o k total i at c w ws bs out ys hi ht ea ec ew eo ey =
+    → ys ≡ laid (unpack o k c w) (take m (drop at out))
+    → (m < length out - at → c ≤ m)
+    → putMid at m out ys ≡ laid (unpackWords o k total (take (i + 1) ws)) bs
+unpack-step o k total i at m c w ws bs out ys hi ht ea ec ew eo ey hm =
     let n : length (unpackWords o k total (take i ws)) ≡ at = unpack-length o k total i ws (omega arith) ht ∙ sym ea in
-    put-laid at out (unpack o k c w) ys ey
+    put-laid at m out (unpack o k c w) ys ey (rw (length-unpack o k c w) hm)
     ∙ ap₂ (λ (l : List ℕ) (m : ℕ). take m l ++ laid (unpack o k c w) (drop m l)) eo (sym n)
     ∙ sym (laid-append (unpackWords o k total (take i ws)) (unpack o k c w) bs)
     ∙ ap (λ (l : List ℕ). laid (unpackWords o k total (take i ws) ++ l) bs) (ap₂ (unpack o k) ec ew)

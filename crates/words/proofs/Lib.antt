@@ -4,7 +4,7 @@ pub mod LaidLaws
 pub mod CommandLaws
 pub mod ClockLaws
 pub mod ToleranceLaws
-mod Spread
+mod ElementLaws
 mod Setter
 mod SetterValues
 mod SetterCall

@@ -3,7 +3,7 @@
 use Prim.Native.Nat.{ℕ, zero, suc, _+_, _*_, _-_, _/_, _%_, _^_, _<_}
 use mathlib.Core.Path.{_≡_, refl, sym, ap, ap₂, _∙_}
 use mathlib.Core.List.{List, [], _∷_, _++_}
-use native.Mathlib.Nat.{mod-lt, mod-eq-of-lt, mod-mod, mod-one, mul-suc, mul-zero, add-comm, add-mul, mul-add, mul-assoc, div-one}
+use native.Mathlib.Nat.{mod-eq-of-lt, mod-mod, mod-one, mul-suc, mul-zero, add-comm, add-mul, mul-add, mul-assoc, div-one}
 use native.Mathlib.Numerals.{add-one}
 use native.Mathlib.Omega.{arith}
 use lib.Arith.{digits-lt}
@@ -35,10 +35,6 @@ rest-joined Lsb k n x r hx hr = high r k hx
 joined-parts : (o : BitOrder) (k n w : ℕ) → joined o k n (first o k n w) (rest o k n w % 2 ^ (k * n)) ≡ w % 2 ^ (k * suc n)
 joined-parts Msb k n w = rw (mod-mod, mul-suc, add-comm (k * n) k, mod-pow-add w k (k * n))
 joined-parts Lsb k n w = rw (mul-suc, mod-pow-add w (k * n) k)
-
-pub first-lt : (o : BitOrder) (k n w : ℕ) → first o k n w < 2 ^ k
-first-lt Msb k n w = mod-lt (w / 2 ^ (k * n)) (pow-pos k)
-first-lt Lsb k n w = mod-lt w (pow-pos k)
 
 pub length-unpack : (o : BitOrder) (k c w : ℕ) → length (unpack o k c w) ≡ c
 length-unpack o k zero w = refl

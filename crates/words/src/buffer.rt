@@ -2,7 +2,7 @@
 ghost use mathlib.Core.Path.{_≡_};
 ghost use Prim.Native.Nat.{ℕ, _*_, _-_, _%_, _^_, _<_, _≤_, min as least};
 ghost use mathlib.Core.List.{List};
-ghost use lib.ListN.{length};
+ghost use lib.ListN.{length, take};
 ghost use Rattle.words.specs.Width.{widthBits};
 ghost use Rattle.words.specs.Word.{laid};
 ghost use Rattle.words.specs.Buffer.{wordCount, tabulate, wordAt, packWords, unpackWords, cutWord};
@@ -15,12 +15,7 @@ use super::pack::word_u16;
 use super::unpack::spread_u8;
 use super::unpack::spread_u16;
 use super::width::Width;
-
-fn min(a: usize, b: usize) -> usize
-    ensures { λ r. ⌜ r ≡ least a b ⌝ }
-{
-    if a < b { a } else { b }
-}
+use super::width::min;
 
 // The first `n` words, none of them short and no element missing.
 fn pack_full_u8(order: BitOrder, xs: &[u8], n: usize, words: &mut [u32])
@@ -99,24 +94,49 @@ pub fn pack_words_u32(order: BitOrder, xs: &[u32], total: usize, words: &mut [u3
     }
 }
 
-// The bytes of received words of a transfer of `total` bytes, over the front of `out`; those past its end are dropped.
+// The first `n` words, none of them short and no element without a place. With 4 for count and room the compiler lays the four at once.
+fn unpack_full_u8(order: BitOrder, words: &[u32], n: usize, out: &mut [u8])
+    requires { ⌜ (n ≤ length (now words)) × (4 * n ≤ length (now out)) ⌝ }
+    ensures { λ _. ⌜ now (out .exit) ≡ laid (unpackWords order 8 (4 * n) (take n (now (words .entry)))) (now (out .entry)) ⌝ }
+{
+    for i in 0..n {
+        let at = 4 * i;
+        spread_u8(order, 4, words[i], &mut out[at..at + 4]);
+    }
+}
+
+// The bytes of received words of a transfer of `total` bytes, over the front of `out`; those past its end are dropped. Behind the words
+// whose bytes all have a place there is at most one with some.
 pub fn unpack_words_u8(order: BitOrder, words: &[u32], total: usize, out: &mut [u8])
     ensures { λ _. ⌜ now (out .exit) ≡ laid (unpackWords order 8 total (now (words .entry))) (now (out .entry)) ⌝ }
 {
-    let n = min(words.len(), Width::U8.word_count(min(total, out.len())));
+    let full = min(words.len(), min(total, out.len()) / 4);
+    unpack_full_u8(order, words, full, out);
+    if full < words.len() {
+        let at = 4 * full;
+        spread_u8(order, min(4, total - at), words[full], &mut out[at..]);
+    }
+}
+
+// The first `n` words, none of them short and no element without a place.
+fn unpack_full_u16(order: BitOrder, words: &[u32], n: usize, out: &mut [u16])
+    requires { ⌜ (n ≤ length (now words)) × (2 * n ≤ length (now out)) ⌝ }
+    ensures { λ _. ⌜ now (out .exit) ≡ laid (unpackWords order 16 (2 * n) (take n (now (words .entry)))) (now (out .entry)) ⌝ }
+{
     for i in 0..n {
-        let at = 4 * i;
-        spread_u8(order, min(4, total - at), words[i], &mut out[at..]);
+        let at = 2 * i;
+        spread_u16(order, 2, words[i], &mut out[at..at + 2]);
     }
 }
 
 pub fn unpack_words_u16(order: BitOrder, words: &[u32], total: usize, out: &mut [u16])
     ensures { λ _. ⌜ now (out .exit) ≡ laid (unpackWords order 16 total (now (words .entry))) (now (out .entry)) ⌝ }
 {
-    let n = min(words.len(), Width::U16.word_count(min(total, out.len())));
-    for i in 0..n {
-        let at = 2 * i;
-        spread_u16(order, min(2, total - at), words[i], &mut out[at..]);
+    let full = min(words.len(), min(total, out.len()) / 2);
+    unpack_full_u16(order, words, full, out);
+    if full < words.len() {
+        let at = 2 * full;
+        spread_u16(order, min(2, total - at), words[full], &mut out[at..]);
     }
 }
 

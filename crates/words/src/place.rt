@@ -1,7 +1,8 @@
-// One element of a word and the others: `bits` is the width of an element, `n` how many others there are.
+// An element put behind those of a word, and one taken out of it: `bits` is the width of an element.
 ghost use mathlib.Core.Path.{_≡_};
 ghost use Prim.Native.Nat.{_+_, _*_, _^_, _<_, _≤_};
-ghost use Rattle.words.specs.Word.{joined, first, rest, reversed};
+ghost use lib.ListN.{getD};
+ghost use Rattle.words.specs.Word.{joined, unpack, reversed};
 use super::order::BitOrder;
 
 // The word of the `n` elements of the word `w` and, after them, `x`.
@@ -15,24 +16,13 @@ pub(crate) fn append(order: BitOrder, bits: usize, n: usize, w: u32, x: u32) -> 
     }
 }
 
-// The first of the 1 + `n` elements of the word `w`.
-pub(crate) fn head(order: BitOrder, bits: usize, n: usize, w: u32) -> u32
-    requires { ⌜ (0 < bits) × (bits * n + bits ≤ 32) × (bits < 32) ⌝ }
-    ensures { λ r. ⌜ r ≡ first order bits n w ⌝ }
+// Element `i` of the `n` elements of the word `w`.
+pub(crate) fn element(order: BitOrder, bits: usize, n: usize, i: usize, w: u32) -> u32
+    requires { ⌜ (0 < bits) × (bits * n ≤ 32) × (bits < 32) × (i < n) ⌝ }
+    ensures { λ r. ⌜ (r ≡ getD (unpack order bits n w) i 0) × (r < 2 ^ bits) ⌝ }
 {
     match order {
-        BitOrder::Msb => (w >> (bits * n)) & ((1 << bits) - 1),
-        BitOrder::Lsb => w & ((1 << bits) - 1),
-    }
-}
-
-// The word of the `n` elements after the first.
-pub(crate) fn tail(order: BitOrder, bits: usize, n: usize, w: u32) -> u32
-    requires { ⌜ (0 < bits) × (bits * n + bits ≤ 32) × (bits < 32) ⌝ }
-    ensures { λ r. ⌜ r ≡ rest order bits n w ⌝ }
-{
-    match order {
-        BitOrder::Msb => w & ((1 << (bits * n)) - 1),
-        BitOrder::Lsb => w >> bits,
+        BitOrder::Msb => (w >> (bits * (n - 1 - i))) & ((1 << bits) - 1),
+        BitOrder::Lsb => (w >> (bits * i)) & ((1 << bits) - 1),
     }
 }

@@ -4,48 +4,34 @@ ghost use Prim.Native.Nat.{_≤_};
 ghost use Rattle.words.specs.Answer.{unpackNumber};
 ghost use Rattle.words.specs.Word.{unpack, laid, unpackedNumber, unpacked};
 use super::order::BitOrder;
-use super::place::head;
-use super::place::tail;
+use super::place::element;
+use super::width::min;
 
 pub enum UnpackResult {
     Done,
     TooMany,
 }
 
-// The first of `n` elements of a word to the front of a buffer, and the rest after it; what has no room is dropped. There is a function for
-// each order, so that the order is looked at once a word.
+// The `n` elements of a word to the front of a buffer; what has no room is dropped. There is a function for each order, so that the order
+// is looked at once a word.
 fn spread_msb_u8(n: usize, word: u32, out: &mut [u8])
     requires { ⌜ n ≤ 4 ⌝ }
     ensures { λ _. ⌜ now (out .exit) ≡ laid (unpack BitOrder.Msb 8 n word) (now (out .entry)) ⌝ }
 {
-    if n == 0 {
-        return;
+    let end = min(n, out.len());
+    for i in 0..end {
+        out[i] = element(BitOrder::Msb, 8, n, i, word) as u8;
     }
-    if out.len() == 0 {
-        return;
-    }
-    out[0] = head(BitOrder::Msb, 8, n - 1, word) as u8;
-    if n == 1 {
-        return;
-    }
-    spread_msb_u8(n - 1, tail(BitOrder::Msb, 8, n - 1, word), &mut out[1..]);
 }
 
 fn spread_lsb_u8(n: usize, word: u32, out: &mut [u8])
     requires { ⌜ n ≤ 4 ⌝ }
     ensures { λ _. ⌜ now (out .exit) ≡ laid (unpack BitOrder.Lsb 8 n word) (now (out .entry)) ⌝ }
 {
-    if n == 0 {
-        return;
+    let end = min(n, out.len());
+    for i in 0..end {
+        out[i] = element(BitOrder::Lsb, 8, n, i, word) as u8;
     }
-    if out.len() == 0 {
-        return;
-    }
-    out[0] = head(BitOrder::Lsb, 8, n - 1, word) as u8;
-    if n == 1 {
-        return;
-    }
-    spread_lsb_u8(n - 1, tail(BitOrder::Lsb, 8, n - 1, word), &mut out[1..]);
 }
 
 pub(crate) fn spread_u8(order: BitOrder, n: usize, word: u32, out: &mut [u8])
@@ -62,34 +48,20 @@ fn spread_msb_u16(n: usize, word: u32, out: &mut [u16])
     requires { ⌜ n ≤ 2 ⌝ }
     ensures { λ _. ⌜ now (out .exit) ≡ laid (unpack BitOrder.Msb 16 n word) (now (out .entry)) ⌝ }
 {
-    if n == 0 {
-        return;
+    let end = min(n, out.len());
+    for i in 0..end {
+        out[i] = element(BitOrder::Msb, 16, n, i, word) as u16;
     }
-    if out.len() == 0 {
-        return;
-    }
-    out[0] = head(BitOrder::Msb, 16, n - 1, word) as u16;
-    if n == 1 {
-        return;
-    }
-    spread_msb_u16(n - 1, tail(BitOrder::Msb, 16, n - 1, word), &mut out[1..]);
 }
 
 fn spread_lsb_u16(n: usize, word: u32, out: &mut [u16])
     requires { ⌜ n ≤ 2 ⌝ }
     ensures { λ _. ⌜ now (out .exit) ≡ laid (unpack BitOrder.Lsb 16 n word) (now (out .entry)) ⌝ }
 {
-    if n == 0 {
-        return;
+    let end = min(n, out.len());
+    for i in 0..end {
+        out[i] = element(BitOrder::Lsb, 16, n, i, word) as u16;
     }
-    if out.len() == 0 {
-        return;
-    }
-    out[0] = head(BitOrder::Lsb, 16, n - 1, word) as u16;
-    if n == 1 {
-        return;
-    }
-    spread_lsb_u16(n - 1, tail(BitOrder::Lsb, 16, n - 1, word), &mut out[1..]);
 }
 
 pub(crate) fn spread_u16(order: BitOrder, n: usize, word: u32, out: &mut [u16])

@@ -1,6 +1,6 @@
 // The three widths of an element: what the Rust has as the trait `Word`.
 ghost use mathlib.Core.Path.{_≡_};
-ghost use Prim.Native.Nat.{_≤_};
+ghost use Prim.Native.Nat.{_≤_, min as least};
 ghost use Rattle.words.specs.Width.{widthBits};
 ghost use Rattle.words.specs.Word.{perWord};
 ghost use Rattle.words.specs.Buffer.{dummy, wordCount};
@@ -55,4 +55,11 @@ impl Width {
             Width::U32 => len,
         }
     }
+}
+
+// The smaller of two counts.
+pub(crate) fn min(a: usize, b: usize) -> usize
+    ensures { λ r. ⌜ r ≡ least a b ⌝ }
+{
+    if a < b { a } else { b }
 }

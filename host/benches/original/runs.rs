@@ -31,12 +31,14 @@ pub fn time() {
 
 fn transfers() {
     let bytes: Vec<u8> = (0..BYTES).map(|i| (i * 37 + 11) as u8).collect();
+    let halves: Vec<u16> = (0..BYTES / 2).map(|i| (i * 9_473 + 11) as u16).collect();
     let words: Vec<u32> = (0..WORDS as u32).map(|i| i.wrapping_mul(!i)).collect();
 
     let ready = scripts::exchange(WORDS, WORDS);
     let by_twos = scripts::exchange(WORDS, 2);
     transfer("512/512 bytes, all ready", Kind::Separate, &bytes, &ready);
     transfer("512/512 bytes, by twos", Kind::Separate, &bytes, &by_twos);
+    transfer("256/256 halves, all ready", Kind::Separate, &halves, &ready);
     transfer("128/128 words, all ready", Kind::Separate, &words, &ready);
     transfer("128/128 words, by twos", Kind::Separate, &words, &by_twos);
     transfer("512 bytes in place, ready", Kind::InPlace, &bytes, &ready);
@@ -48,6 +50,7 @@ fn transfers() {
 
     let ready = scripts::read(WORDS);
     transfer("512 bytes read, ready", Kind::Read, &bytes, &ready);
+    transfer("256 halves read, ready", Kind::Read, &halves, &ready);
     transfer("128 words read, ready", Kind::Read, &words, &ready);
 }
 
