@@ -5,7 +5,7 @@
 //!
 //! Tests that need the original, one of the programs or the kit are ignored where it
 //! is missing. Where `CI` is `true` nothing is ignored: without the original the tests
-//! are not built, and those of a missing program, or of the kit, fail.
+//! are not built, and those that need a missing program, or the kit, fail.
 
 #[path = "original/build/place.rs"]
 mod place;
@@ -59,7 +59,8 @@ fn find(package: &Path) {
     }
     println!("cargo::rustc-check-cfg=cfg(kit)");
     println!("cargo::rerun-if-env-changed=PATH");
-    if place::ci() || Command::new("rt").arg("version").output().is_ok() {
+    let kit = Command::new("rt").arg("version").output();
+    if place::ci() || kit.is_ok_and(|said| said.status.success()) {
         println!("cargo::rustc-cfg=kit");
     }
 }

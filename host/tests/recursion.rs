@@ -28,6 +28,12 @@ fn collect(mir: Output, calls: &mut Calls) {
     let said = String::from_utf8_lossy(&mir.stderr);
     assert!(mir.status.success(), "rt mir: {said}");
     let text = String::from_utf8(mir.stdout).unwrap();
+    let by_name = text.matches("(call (direct (fnRef \"").count();
+    assert_eq!(
+        text.matches("(call ").count(),
+        by_name,
+        "each call names its function"
+    );
     // The last name is that of the function that a program starts with.
     let (definitions, _) = text.rsplit_once("(fnRef \"").unwrap();
     for definition in definitions.split("(fn-def \"").skip(1) {
@@ -102,7 +108,7 @@ fn no_function_calls_itself() {
         .map(|(name, _)| name)
         .collect();
     let mut calls = Calls::new();
-    // From the highest on: of a crate of which all functions were reached from above, nothing more is to be seen.
+    // From the top: a crate whose functions were all reached from above adds nothing.
     for name in names.into_iter().rev() {
         let written = written(&repository.join("crates").join(name).join("src"));
         if seen(&calls, name) != written {

@@ -258,7 +258,7 @@ holds-one U32 = omega arith
 pub enough-words : (k total : ℕ) → 0 < perWord k → total ≤ perWord k * wordCount k total
 enough-words k total h = omega (arith, lt-div-mul-add {a = total + (perWord k - 1)} {b = perWord k} h, mul-comm (perWord k) (wordCount k total))
 
--- n words: those received, or as many as total and buffer hold whole; what is left of either is less than a word
+-- n words: those received, or as many as total and buffer hold whole; where words are left, the shorter of the two ends with the next
 pub whole-words : (k n e total len size : ℕ) → 0 < perWord k → n ≡ min len (e / perWord k) → e ≡ min total size
     → (n ≤ len) × (perWord k * n ≤ total) × (perWord k * n ≤ size) × (n < len → min total size ≤ perWord k * (n + 1))
 whole-words k n e total len size h en ee =
