@@ -130,11 +130,11 @@ pub record Fit (g a : Start) : Type 0 where
   pub order : g .board .driver .order ≡ a .board .driver .order
   pub length : total g ≡ total a
 
-either : (x y : Bool) → (x || y) ≡ false → (x ≡ false) × (y ≡ false)
+pub either : (x y : Bool) → (x || y) ≡ false → (x ≡ false) × (y ≡ false)
 either true y h = (h, let z : _≡_ {A = ℕ} 0 1 = cc in absurd (omega arith))
 either false y h = (refl, h)
 
-equal : (m n : ℕ) → unequal m n ≡ false → m ≡ n
+pub equal : (m n : ℕ) → unequal m n ≡ false → m ≡ n
 equal m n h = by-test (eqb m n) refl h
   where
     by-test : (t : Bool) → eqb m n ≡ t → not t ≡ false → m ≡ n

@@ -1,30 +1,21 @@
--- What the code begins with is what the two boards start with; and the cases of a transfer's start.
+-- What the code begins with is what the two boards start with, and its test for number 9 is the definition's.
 -- Assumes nothing.
-use Prim.Native.Nat.{ℕ, _*_, _<_, _≤_}
-use mathlib.Core.Bool.{Bool, true, false, cond, not}
-use mathlib.Core.Path.{_≡_, refl, sym, ap, ap₂, _∙_}
-use lib.Dec.{eqb}
+use Prim.Native.Nat.{ℕ, _<_, _≤_}
+use mathlib.Core.Bool.{Bool, true, false, cond, not, _||_}
+use mathlib.Core.Path.{_≡_, refl, sym, _∙_}
+use lib.Dec.{eqb, ltb}
 use lib.ListN.{length}
-use borrow.Author.Tests.{lt-ltb, le-ltb, eq-eqb, ne-eqb}
-use Rattle.words.specs.declared.transaction.LpspiError.{LpspiError}
-use Rattle.words.specs.declared.transaction.LpspiError.the-variants.{FrameSize}
-use Rattle.words.specs.declared.transaction.Transaction.{Transaction}
-use Rattle.words.specs.declared.transaction.TransactionResult.{TransactionResult}
-use Rattle.words.specs.declared.transaction.TransactionResult.the-variants.{Ok as Made, Err as Refused}
-use Rattle.words.specs.declared.width.Width.{Width}
-use Rattle.words.specs.Buffer.{wordCount}
-use Rattle.words.specs.Command.{commandAnswer, frameAccepted, framed, lsbfOf}
+use borrow.Author.Tests.{lt-ltb, le-ltb, ltb-false, eq-eqb, ne-eqb}
+use Rattle.words.specs.Command.{lsbfOf}
 use Rattle.words.specs.Width.{widthBits}
-use Rattle.words.proofs.CommandLaws.{accepted-word, refused-size}
-use Rattle.sequences.specs.declared.access.Ending.the-variants.{Ok, Err}
-use Rattle.sequences.specs.declared.driver.Lpspi.{Lpspi}
-use Rattle.machine.specs.declared.transfer.Transfer.{Transfer}
-use Rattle.sequences.specs.Driver.{driverCommand}
-use Rattle.machine.specs.Transfer.{startTransfer, endedTransfer}
+use Rattle.transfers.specs.declared.begin.Ways.the-variants.{Both}
 use Rattle.transfers.specs.Transfers.{begun, separatePlan, inPlacePlan}
+use Rattle.transfers.specs.Begin.{lengthPlan}
 use Rattle.agreement.specs.declared.board.Board.{Board}
-use Rattle.agreement.specs.Start.{unfitBy, Start, elementBits, total, transferOf}
-use Rattle.bus.specs.Begin.{totalBy, begunBy}
+use Rattle.agreement.specs.Start.{Start, elementBits, total, unequal, unfitBy, transferOf}
+use Rattle.agreement.proofs.StartFacts.{either}
+use Rattle.bus.specs.Begin.{totalBy}
+use Rattle.bus.specs.Trial.{refusedBy}
 
 pub total-is : (s : Start) → total s ≡ totalBy (s .board .inplace) (length (s .read)) (length (s .write))
 total-is s = by-place (s .board .inplace)
@@ -35,69 +26,68 @@ total-is s = by-place (s .board .inplace)
     by-place true = refl
     by-place false = refl
 
-pub begun-is : (s : Start) → transferOf s ≡ begunBy (elementBits s) (s .board .driver) (total s)
+pub begun-is : (s : Start) → transferOf s ≡ begun (elementBits s) (s .board .driver) (lengthPlan (elementBits s) Both (total s))
 begun-is s = by-place (s .board .inplace)
   where
     by-place : (b : Bool)
         → begun (elementBits s) (s .board .driver) (cond b (inPlacePlan (elementBits s) (s .board .driver) (s .read)) (separatePlan (elementBits s) (s .board .driver) (s .read) (s .write)))
-        ≡ begunBy (elementBits s) (s .board .driver)
-        (cond b (inPlacePlan (elementBits s) (s .board .driver) (s .read)) (separatePlan (elementBits s) (s .board .driver) (s .read) (s .write)) .total)
+        ≡ begun (elementBits s) (s .board .driver)
+        (lengthPlan (elementBits s) Both (cond b (inPlacePlan (elementBits s) (s .board .driver) (s .read)) (separatePlan (elementBits s) (s .board .driver) (s .read) (s .write)) .total))
     by-place true = refl
     by-place false = refl
 
--- THE START OF A TRANSFER
+-- NUMBER 9, of elements of k bits: m and n are the total lengths; `wk`, `wg`, `wa`, `og`, `oa` are the bits and the orders that the code has
+module _ (k : ℕ) (g a : Board) (m n : ℕ) {wk wg : ℕ} (xk : wk ≡ k) (xg : wg ≡ widthBits (g .width)) where
+  pub refused-buffers : (wg ≡ wk → ⊥) → true ≡ refusedBy k g a m n
+  refused-buffers h = rw (ne-eqb (widthBits (g .width)) k (λ (e : widthBits (g .width) ≡ k). h (xg ∙ e ∙ sym xk)))
 
-module _ (x : Width) (d : Lpspi) (len : ℕ) {r : Transfer} where
-  pub start-empty : len ≡ 0 → r ≡ endedTransfer d Ok → r ≡ begunBy (widthBits x) d len
-  start-empty z er = er ∙ rw z
+  module _ (ek : wg ≡ wk) where
+    own : eqb (widthBits (g .width)) k ≡ true
+    own = eq-eqb (widthBits (g .width)) k (sym xg ∙ ek ∙ xk)
 
-  module _ (some : len ≡ 0 → ⊥) where
-    refused : frameAccepted (widthBits x * len) ≡ false → r ≡ endedTransfer d (Err FrameSize) → r ≡ begunBy (widthBits x) d len
-    refused a er = er ∙ rw (ne-eqb len 0 some, a)
+    pub refused-gate : 4 < g .exponent → true ≡ refusedBy k g a m n
+    refused-gate h = rw (own, lt-ltb 4 (g .exponent) h)
 
-    module _ {t : TransactionResult} (ec : commandAnswer t ≡ framed (widthBits x * len)) where
-      pub start-refused : (u : LpspiError) → t ≡ Refused u → r ≡ endedTransfer d (Err FrameSize) → r ≡ begunBy (widthBits x) d len
-      start-refused u eu er = refused (refused-size (widthBits x * len) u (ap commandAnswer (sym eu) ∙ ec)) er
+    module _ (eg : g .exponent ≤ 4) where
+      pub refused-antenna : 4 < a .exponent → true ≡ refusedBy k g a m n
+      refused-antenna h = rw (own, le-ltb 4 (g .exponent) eg, lt-ltb 4 (a .exponent) h)
 
-      pub start-made : (u : Transaction) → t ≡ Made u → {n : ℕ} → n ≡ wordCount (widthBits x) len → {command : ℕ} → command ≡ driverCommand d (u .0) → r ≡ startTransfer d command n n
-          → r ≡ begunBy (widthBits x) d len
-      start-made u eu {n = n} en {command = command} c er =
-          let a = accepted-word (widthBits x * len) u (ap commandAnswer (sym eu) ∙ ec) in
-          er ∙ ap₂ (λ (w m : ℕ). startTransfer d w m m) (c ∙ ap (driverCommand d) (a .1)) en ∙ rw (ne-eqb len 0 some, a .0)
-
--- THE PAIR'S REFUSAL: m and n are the total lengths; `wg`, `wa`, `og`, `oa` are the bits and the orders that the code has
-module _ (g a : Board) (m n : ℕ) where
-  pub unfit-gate : 4 < g .exponent → true ≡ unfitBy g a m n
-  unfit-gate h = rw (lt-ltb 4 (g .exponent) h)
-
-  module _ (eg : g .exponent ≤ 4) where
-    pub unfit-antenna : 4 < a .exponent → true ≡ unfitBy g a m n
-    unfit-antenna h = rw (le-ltb 4 (g .exponent) eg, lt-ltb 4 (a .exponent) h)
-
-    module _ (ea : a .exponent ≤ 4) {wg wa : ℕ} (xg : wg ≡ widthBits (g .width)) (xa : wa ≡ widthBits (a .width)) where
-      pub unfit-width : (wg ≡ wa → ⊥) → true ≡ unfitBy g a m n
-      unfit-width h =
-          rw (
-            le-ltb 4 (g .exponent) eg,
-            le-ltb 4 (a .exponent) ea,
-            ne-eqb (widthBits (g .width)) (widthBits (a .width)) (λ (e : widthBits (g .width) ≡ widthBits (a .width)). h (xg ∙ e ∙ sym xa)),
-          )
-
-      module _ (w : wg ≡ wa) {og oa : ℕ} (yg : og ≡ lsbfOf (g .driver .order)) (ya : oa ≡ lsbfOf (a .driver .order)) where
-        pub unfit-order : (og ≡ oa → ⊥) → true ≡ unfitBy g a m n
-        unfit-order h =
+      module _ (ea : a .exponent ≤ 4) {wa : ℕ} (xa : wa ≡ widthBits (a .width)) where
+        pub refused-width : (wg ≡ wa → ⊥) → true ≡ refusedBy k g a m n
+        refused-width h =
             rw (
+              own,
               le-ltb 4 (g .exponent) eg,
               le-ltb 4 (a .exponent) ea,
-              eq-eqb (widthBits (g .width)) (widthBits (a .width)) (sym xg ∙ w ∙ xa),
-              ne-eqb (lsbfOf (g .driver .order)) (lsbfOf (a .driver .order)) (λ (e : lsbfOf (g .driver .order) ≡ lsbfOf (a .driver .order)). h (yg ∙ e ∙ sym ya)),
+              ne-eqb (widthBits (g .width)) (widthBits (a .width)) (λ (e : widthBits (g .width) ≡ widthBits (a .width)). h (xg ∙ e ∙ sym xa)),
             )
 
-        pub unfit-length : og ≡ oa → not (eqb m n) ≡ unfitBy g a m n
-        unfit-length h =
-            rw (
-              le-ltb 4 (g .exponent) eg,
-              le-ltb 4 (a .exponent) ea,
-              eq-eqb (widthBits (g .width)) (widthBits (a .width)) (sym xg ∙ w ∙ xa),
-              eq-eqb (lsbfOf (g .driver .order)) (lsbfOf (a .driver .order)) (sym yg ∙ h ∙ ya),
-            )
+        module _ (w : wg ≡ wa) {og oa : ℕ} (yg : og ≡ lsbfOf (g .driver .order)) (ya : oa ≡ lsbfOf (a .driver .order)) where
+          pub refused-order : (og ≡ oa → ⊥) → true ≡ refusedBy k g a m n
+          refused-order h =
+              rw (
+                own,
+                le-ltb 4 (g .exponent) eg,
+                le-ltb 4 (a .exponent) ea,
+                eq-eqb (widthBits (g .width)) (widthBits (a .width)) (sym xg ∙ w ∙ xa),
+                ne-eqb (lsbfOf (g .driver .order)) (lsbfOf (a .driver .order))
+                    (λ (e : lsbfOf (g .driver .order) ≡ lsbfOf (a .driver .order)). h (yg ∙ e ∙ sym ya)),
+              )
+
+          pub refused-length : og ≡ oa → not (eqb m n) ≡ refusedBy k g a m n
+          refused-length h =
+              rw (
+                own,
+                le-ltb 4 (g .exponent) eg,
+                le-ltb 4 (a .exponent) ea,
+                eq-eqb (widthBits (g .width)) (widthBits (a .width)) (sym xg ∙ w ∙ xa),
+                eq-eqb (lsbfOf (g .driver .order)) (lsbfOf (a .driver .order)) (sym yg ∙ h ∙ ya),
+              )
+
+-- boards that are not refused have FIFOs of at most 16 words
+pub small-exponents : (k : ℕ) (g a : Board) (m n : ℕ) → refusedBy k g a m n ≡ false → (g .exponent ≤ 4) × (a .exponent ≤ 4)
+small-exponents k g a m n h =
+    let alike = unequal (widthBits (g .width)) (widthBits (a .width)) || (unequal (lsbfOf (g .driver .order)) (lsbfOf (a .driver .order)) || unequal m n) in
+    let fits = either (unequal (widthBits (g .width)) k) (unfitBy g a m n) h .1 in
+    let gate = either (ltb 4 (g .exponent)) (ltb 4 (a .exponent) || alike) fits in
+    (ltb-false 4 (g .exponent) (gate .0), ltb-false 4 (a .exponent) (either (ltb 4 (a .exponent)) alike (gate .1) .0))

@@ -12,13 +12,14 @@ use Rattle.agreement.specs.declared.board.Board.{Board}
 use Rattle.agreement.specs.declared.event.Event.{Event}
 use Rattle.agreement.specs.declared.event.Event.the-variants.{Step, Clock, Noise}
 use Rattle.agreement.specs.declared.event.Side.the-variants.{Gate, Antenna}
-use Rattle.agreement.specs.Start.{Start, accepted, unfit}
+use Rattle.agreement.specs.Start.{Start, accepted}
 use Rattle.agreement.specs.Events.{pairAfter}
 use Rattle.agreement.specs.Tally.{tally}
 use Rattle.agreement.specs.Agreement.{Seen, seen, OkTwice, Plain}
 use Rattle.agreement.specs.Codes.{eventOf, eventsOf}
 use Rattle.agreement.proofs.Demand3.{finishes}
-use Rattle.bus.specs.Trial.{Slices, startOf, TrialLeft, trialOf}
+use Rattle.bus.specs.Trial.{startOf, refused, TrialLeft, trialOf}
+use Rattle.bus.proofs.TrialLaws.{not-refused}
 
 -- A BYTE FOR EVERY EVENT
 abbrev pub byteOf : Event → ℕ
@@ -73,16 +74,16 @@ events-append [] ys = refl
 events-append (x ∷ xs) ys = ap (λ (vs : List Event). eventOf x ∷ vs) (events-append xs ys)
 
 -- (c) OF THE PAIR ENTRY
-module _ (g a : Board) (gateReads gateWrites antennaReads antennaWrites : Slices) where
+module _ (k : ℕ) (g a : Board) (gateRead gateWrite antennaRead antennaWrite : List ℕ) where
   -- what the entry answers to a list of bytes
   abbrev pub answered : List ℕ → TrialLeft
-  answered bytes = trialOf g a gateReads gateWrites antennaReads antennaWrites bytes
+  answered bytes = trialOf k g a gateRead gateWrite antennaRead antennaWrite bytes
 
   abbrev pub gateStart : Start
-  gateStart = startOf g gateReads gateWrites
+  gateStart = startOf g gateRead gateWrite
 
   abbrev pub antennaStart : Start
-  antennaStart = startOf a antennaReads antennaWrites
+  antennaStart = startOf a antennaRead antennaWrite
 
   -- further bytes, all of them steps or clocks, after which it answers 0 and both ends have had Ok twice
   pub record Reaches (bytes : List ℕ) : Type 0 where
@@ -97,7 +98,7 @@ module _ (g a : Board) (gateReads gateWrites antennaReads antennaWrites : Slices
   accepts true x y e h = absurd (omega (arith, e, h))
   accepts false x y e h = refl
 
-  module _ (fits : unfit gateStart antennaStart ≡ false) (bytes : List ℕ) where
+  module _ (fits : refused k gateStart antennaStart ≡ false) (bytes : List ℕ) where
     number-is : answered bytes .number ≡ 0
     number-is = rw fits
 
@@ -111,8 +112,8 @@ module _ (g a : Board) (gateReads gateWrites antennaReads antennaWrites : Slices
       → tally Gate gateStart antennaStart (eventsOf bytes) .flags + tally Antenna gateStart antennaStart (eventsOf bytes) .flags ≡ 0
       → accepted gateStart ≡ true → 1 < 2 ^ (g .exponent) → 1 < 2 ^ (a .exponent) → Reaches bytes
   reaches bytes zero-number calm ok eg ea =
-      let fits = accepts (unfit gateStart antennaStart) _ _ refl zero-number in
-      let f = finishes gateStart antennaStart fits (eventsOf bytes) calm ok eg ea in
+      let fits = accepts (refused k gateStart antennaStart) _ _ refl zero-number in
+      let f = finishes gateStart antennaStart (not-refused k gateStart antennaStart fits .1) (eventsOf bytes) calm ok eg ea in
       let more = bytesOf (f .more) in
       let same : eventsOf bytes ++ f .more ≡ eventsOf (bytes ++ more) =
       ap (λ (vs : List Event). eventsOf bytes ++ vs) (sym (events-of-bytes (f .more))) ∙ sym (events-append bytes more) in

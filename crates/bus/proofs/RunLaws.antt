@@ -20,9 +20,10 @@ use Rattle.agreement.specs.End.{Wire, wireAfter, registersAfter, End, endAccess
 use Rattle.agreement.specs.Events.{Pair, pair, clockedBy, happened, after, freshPair, pairAfter}
 use Rattle.agreement.proofs.StartFacts.{fit}
 use Rattle.agreement.proofs.Demand3.{gate-receives, antenna-receives, gate-sends, antenna-sends}
+use Rattle.bus.specs.declared.clock.Stations.{Stations}
 use Rattle.bus.specs.declared.station.Link.{Link}
 use Rattle.bus.specs.declared.station.Station.{Station}
-use Rattle.bus.specs.Held.{endOf, linkJob, Stored, Linked}
+use Rattle.bus.specs.Held.{endOf, linkJob, Stored, Linked, Room}
 use Rattle.bus.proofs.StationLaws.{word-due, same-end}
 
 -- one event more
@@ -105,3 +106,8 @@ module _ (g a : Start) (gl al : Link) (gateSend antennaSend : List ℕ) where
   pub relinked : {m n m′ n′ : ℕ} → m′ ≡ m → n′ ≡ n → Linked g a gl al gateSend antennaSend m n → Linked g a gl al gateSend antennaSend m′ n′
   relinked {m} {n} {m′} {n′} em en l =
       subst (λ (i : ℕ). Linked g a gl al gateSend antennaSend m′ i) (sym en) (subst (λ (i : ℕ). Linked g a gl al gateSend antennaSend i n) (sym em) l)
+
+-- room among so many places
+pub resized : {gl al : Link} {ends : Stations} {m n m′ n′ : ℕ} → m′ ≡ m → n′ ≡ n → Room gl al ends m n → Room gl al ends m′ n′
+resized {gl} {al} {ends} {m} {n} {m′} {n′} em en h =
+    subst (λ (i : ℕ). Room gl al ends m′ i) (sym en) (subst (λ (i : ℕ). Room gl al ends i n) (sym em) h)

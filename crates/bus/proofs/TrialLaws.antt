@@ -6,7 +6,7 @@ use mathlib.Core.List.{List, []}
 use mathlib.Core.Path.{_≡_, refl, sym, ap, ap₂, _∙_, subst}
 use native.Mathlib.Omega.{arith}
 use lib.Dec.{eqb, ltb}
-use lib.ListN.{length, getD, replicate, length-replicate}
+use lib.ListN.{length, getD, take, replicate, length-replicate}
 use borrow.Author.Tests.{eqb-true}
 use Rattle.words.specs.declared.order.BitOrder.{BitOrder}
 use Rattle.words.specs.declared.width.Width.{Width}
@@ -21,23 +21,27 @@ use Rattle.words.proofs.CommandLaws.{accepted-between}
 use Rattle.words.proofs.LaidLaws.{in-place-word, packed-at}
 use Rattle.machine.specs.declared.flush.Flush.the-variants.{Status}
 use Rattle.machine.specs.declared.transfer.Transfer.{Transfer}
-use Rattle.runs.specs.declared.drive.Frame.{Frame}
 use Rattle.runs.specs.Drive.{wordIn}
-use Rattle.transfers.specs.Transfers.{Plan, separatePlan, inPlacePlan}
+use Rattle.transfers.specs.declared.begin.Ways.the-variants.{Both}
+use Rattle.transfers.specs.Transfers.{Plan, begun, separatePlan, inPlacePlan}
+use Rattle.transfers.specs.Begin.{lengthPlan}
 use Rattle.agreement.specs.declared.board.Board.{Board}
-use Rattle.agreement.specs.Start.{Start, elementBits, started, total, frameWords, accepted, unfit, job}
+use Rattle.agreement.specs.Start.{Start, elementBits, started, total, frameWords, accepted, unequal, unfit, job}
 use Rattle.agreement.specs.End.{freshWire, freshRegisters, End, end, freshEnd}
-use Rattle.agreement.specs.Events.{pairAfter}
+use Rattle.agreement.specs.Events.{Pair, freshPair, pairAfter}
 use Rattle.agreement.specs.Agreement.{Seen, seen, bufferOf, Agreement}
 use Rattle.agreement.specs.Codes.{eventsOf}
 use Rattle.agreement.proofs.Demand3.{agreement}
+use Rattle.agreement.proofs.StartFacts.{either, equal, fit}
+use Rattle.bus.specs.declared.begin.Entrant.{Entrant}
+use Rattle.bus.specs.declared.clock.Stations.{Stations}
 use Rattle.bus.specs.declared.station.Link.{Link}
 use Rattle.bus.specs.declared.station.Station.{Station}
-use Rattle.bus.specs.Begin.{totalBy, begunBy}
-use Rattle.bus.specs.Held.{endOf, linkJob, LinkOf}
 use Rattle.bus.specs.declared.trial.Outcome.{Outcome}
-use Rattle.bus.specs.View.{stationSeen, stateOf}
-use Rattle.bus.specs.Trial.{Slices, pick, placed, startOf, TrialLeft, trialLeft, trialOf}
+use Rattle.bus.specs.Begin.{totalBy}
+use Rattle.bus.specs.Held.{endOf, linkJob, LinkOf, Linked, Fresh, linkOf, pairOf, Prepared, endsOf, Ran}
+use Rattle.bus.specs.View.{stateOf}
+use Rattle.bus.specs.Trial.{startOf, refused, TrialLeft, trialLeft, trialOf, Tried}
 use Rattle.bus.proofs.BeginLaws.{total-is, begun-is}
 
 -- LINKS
@@ -64,81 +68,107 @@ few-words w n = by-test (eqb n 0) refl w
     by-test true e w h = none w (eqb-true n 0 e)
     by-test false e w h = some w (accepted-between (widthBits w * n) h)
 
-frame-eq : {w w′ : Width} {t t′ : ℕ} {b b′ : Bool} → w ≡ w′ → t ≡ t′ → b ≡ b′
-    → _≡_ {A = Frame} (record { width = w; total = t; inplace = b }) (record { width = w′; total = t′; inplace = b′ })
-frame-eq a b c = cc
+-- the link of a board that enters with these buffers: its words where they are sent, and room for those received
+module _ (b : Entrant) (read write send : List ℕ) (ready : Prepared (widthBits (b .board .width)) b read write send) where
+  abbrev s : Start
+  s = startOf (b .board) read write
 
-module _ (s : Start) (l : Link) (send : List ℕ) (e : l .exponent ≡ s .board .exponent) (ew : l .frame .width ≡ s .board .width) (et : l .frame .total ≡ total s)
-    (ei : l .frame .inplace ≡ s .board .inplace) (es : send ≡ laid (packWords (s .board .driver .order) (elementBits s) (total s) (started s)) (replicate {A = ℕ} 128 0)) where
   abbrev o : BitOrder
-  o = s .board .driver .order
+  o = b .board .driver .order
 
   packed : accepted s ≡ true → (i : ℕ) → getD send i 0 ≡ wordAt o (elementBits s) (total s) (started s) i
   packed ok i =
-      ap (λ (xs : List ℕ). getD xs i 0) es
-      ∙ packed-at o (elementBits s) (total s) i (started s) (replicate {A = ℕ} 128 0) (holds-one (s .board .width)) (blank 128)
-      (subst (λ (m : ℕ). frameWords s ≤ m) (sym (length-replicate {A = ℕ} 128 0)) (few-words (s .board .width) (total s) ok))
-
-  -- the frame is that of the board
-  same-frame : l .frame ≡ record { width = s .board .width; total = total s; inplace = s .board .inplace }
-  same-frame = frame-eq ew et ei
+      ap (λ (xs : List ℕ). getD xs i 0)
+      (ready .packed ∙ ap (λ (n : ℕ). laid (packWords o (elementBits s) n (started s)) (replicate {A = ℕ} 128 0)) (ready .length))
+      ∙ packed-at o (elementBits s) (total s) i (started s) (replicate {A = ℕ} 128 0) (holds-one (b .board .width)) (blank 128)
+      (subst (λ (m : ℕ). frameWords s ≤ m) (sym (length-replicate {A = ℕ} 128 0)) (few-words (b .board .width) (total s) ok))
 
   abbrev planBy : Bool → Plan
-  planBy b = cond b (inPlacePlan (elementBits s) (s .board .driver) (s .read)) (separatePlan (elementBits s) (s .board .driver) (s .read) (s .write))
+  planBy p = cond p (inPlacePlan (elementBits s) (b .board .driver) read) (separatePlan (elementBits s) (b .board .driver) read write)
 
-  word-sent : accepted s ≡ true → (rs : List ℕ) (i : ℕ) → linkJob l send .words rs i ≡ job s .words rs i
+  word-sent : accepted s ≡ true → (rs : List ℕ) (i : ℕ) → linkJob (linkOf b) send .words rs i ≡ job s .words rs i
   word-sent ok rs i =
-      ap (λ (f : Frame). wordIn f send rs (length rs) i) same-frame ∙ by-place (s .board .inplace) (packed ok i)
+      ap (λ (n : ℕ). wordIn (record { width = b .board .width; total = n; inplace = b .board .inplace }) send rs (length rs) i) (ready .length)
+      ∙ by-place (b .board .inplace) (packed ok i)
     where
-      by-place : (b : Bool) → getD send i 0 ≡ wordAt o (elementBits s) (planBy b .total) (cond b (s .read) (s .write)) i
-          → cond (b && ltb i (length rs)) (cutWord (elementBits s) (planBy b .total) i (getD rs i 0)) (getD send i 0) ≡ planBy b .words rs i
+      by-place : (p : Bool) → getD send i 0 ≡ wordAt o (elementBits s) (planBy p .total) (cond p read write) i
+          → cond (p && ltb i (length rs)) (cutWord (elementBits s) (planBy p .total) i (getD rs i 0)) (getD send i 0) ≡ planBy p .words rs i
       by-place true h =
-          ap (λ (v : ℕ). cond (ltb i (length rs)) (cutWord (elementBits s) (length (s .read)) i (getD rs i 0)) v) h ∙ sym (in-place-word o (elementBits s) (length (s .read)) i rs (s .read) refl)
+          ap (λ (v : ℕ). cond (ltb i (length rs)) (cutWord (elementBits s) (length read) i (getD rs i 0)) v) h
+          ∙ sym (in-place-word o (elementBits s) (length read) i rs read refl)
       by-place false h = h
 
-  pub link-of : LinkOf s l send 128
-  link-of = record { exponent = e; words = word-sent; room = λ ok. few-words (s .board .width) (total s) ok }
-
--- THE BUFFER that is left, and the words that came in
-pub buffer-left : (b : Board) (reads writes left : Slices) (o : BitOrder) (n : ℕ) (rs : List ℕ) (x : End) → o ≡ b .driver .order → n ≡ total (startOf b reads writes) → rs ≡ x .received
-    → left ≡ placed (b .width) (laid (unpackWords o (widthBits (b .width)) n rs) (pick (b .width) reads)) reads
-    → left ≡ placed (b .width) (bufferOf (startOf b reads writes) x) reads
-buffer-left b reads writes left o n rs x eo en er h =
-    h
-    ∙ ap (λ (p : BitOrder). placed (b .width) (laid (unpackWords p (widthBits (b .width)) n rs) (pick (b .width) reads)) reads) eo
-    ∙ ap₂ (λ (m : ℕ) (ws : List ℕ). placed (b .width) (laid (unpackWords (b .driver .order) (widthBits (b .width)) m ws) (pick (b .width) reads)) reads) en er
-
-pub picked : (w : Width) (xs : List ℕ) (s : Slices) → pick w (placed w xs s) ≡ xs
-picked U8 xs s = refl
-picked U16 xs s = refl
-picked U32 xs s = refl
+  pub link-of : LinkOf s (linkOf b) send 128
+  link-of = record { exponent = refl; words = word-sent; room = λ ok. few-words (b .board .width) (total s) ok }
 
 -- AT FRESH
-pub total-lent : (b : Board) (reads writes : Slices) (n read write : ℕ) → read ≡ length (pick (b .width) reads) → write ≡ length (pick (b .width) writes) → n ≡ totalBy (b .inplace) read write
-    → n ≡ total (startOf b reads writes)
-total-lent b reads writes n read write er ew en = en ∙ ap₂ (totalBy (b .inplace)) er ew ∙ sym (total-is (startOf b reads writes))
+pub fresh-end : (b : Entrant) (s : Station) (read write words : List ℕ) {registers : List ℕ} → Fresh b s → b .total ≡ total (startOf (b .board) read write)
+    → registers ≡ freshRegisters → endOf s words registers ≡ freshEnd (startOf (b .board) read write)
+fresh-end b s read write words {registers} f en eg =
+    let k = widthBits (b .board .width) in
+    f .stands words registers
+    ∙ ap₂ (λ (u : Transfer) (gs : List ℕ). end u Status [] freshWire gs)
+    (ap (λ (n : ℕ). begun k (b .board .driver) (lengthPlan k Both n)) en ∙ sym (begun-is (startOf (b .board) read write))) eg
 
-pub fresh-lent : (b : Board) (reads writes : Slices) (n : ℕ) (t : Transfer) (s : Station) (registers words : List ℕ) → n ≡ total (startOf b reads writes)
-    → t ≡ begunBy (widthBits (b .width)) (b .driver) n → ((ws gs : List ℕ) → endOf s ws gs ≡ end t Status [] freshWire gs) → registers ≡ freshRegisters
-    → endOf s words registers ≡ freshEnd (startOf b reads writes)
-fresh-lent b reads writes n t s registers words en et es eg =
-    es words registers
-    ∙ ap₂ (λ (u : Transfer) (gs : List ℕ). end u Status [] freshWire gs) (et ∙ ap (begunBy (widthBits (b .width)) (b .driver)) en ∙ sym (begun-is (startOf b reads writes))) eg
+-- NUMBER 9: boards that are not refused have the width of their buffers, and fit
+pub not-refused : (k : ℕ) (s t : Start) → refused k s t ≡ false → (elementBits s ≡ k) × (unfit s t ≡ false)
+not-refused k s t h =
+    let both = either (unequal (elementBits s) k) (unfit s t) h in
+    (equal (elementBits s) k (both .0), both .1)
 
--- ELEMENTS of slices fit their width
-pub elements-lent : (b : Board) (reads writes : Slices) → Elements 8 (reads .u8) → Elements 16 (reads .u16) → Elements 32 (reads .u32)
-    → Elements 8 (writes .u8) → Elements 16 (writes .u16) → Elements 32 (writes .u32) → Elements (elementBits (startOf b reads writes)) (started (startOf b reads writes))
-elements-lent b reads writes a₁ a₂ a₃ b₁ b₂ b₃ = by-place (b .inplace) (by-width (b .width) reads a₁ a₂ a₃) (by-width (b .width) writes b₁ b₂ b₃)
-  where
-    by-width : (w : Width) (s : Slices) → Elements 8 (s .u8) → Elements 16 (s .u16) → Elements 32 (s .u32) → Elements (widthBits w) (pick w s)
-    by-width U8 s x y z = x
-    by-width U16 s x y z = y
-    by-width U32 s x y z = z
+-- both links, of boards that are not refused
+module _ (k : ℕ) (g a : Entrant) (gr gw ar aw gs hs : List ℕ) (pg : Prepared k g gr gw gs) (pa : Prepared k a ar aw hs)
+    (h : refused k (startOf (g .board) gr gw) (startOf (a .board) ar aw) ≡ false) where
+  abbrev gateStart : Start
+  gateStart = startOf (g .board) gr gw
 
-    by-place : (p : Bool) → Elements (widthBits (b .width)) (pick (b .width) reads) → Elements (widthBits (b .width)) (pick (b .width) writes)
-        → Elements (widthBits (b .width)) (cond p (pick (b .width) reads) (pick (b .width) writes))
-    by-place true x y = x
-    by-place false x y = y
+  abbrev antennaStart : Start
+  antennaStart = startOf (a .board) ar aw
+
+  both-fit : (elementBits gateStart ≡ k) × (unfit gateStart antennaStart ≡ false)
+  both-fit = not-refused k gateStart antennaStart h
+
+  gate-link : LinkOf gateStart (linkOf g) gs 128
+  gate-link = link-of g gr gw gs (subst (λ (n : ℕ). Prepared n g gr gw gs) (sym (both-fit .0)) pg)
+
+  antenna-link : LinkOf antennaStart (linkOf a) hs 128
+  antenna-link =
+      link-of a ar aw hs
+      (subst (λ (n : ℕ). Prepared n a ar aw hs) (sym (both-fit .0) ∙ fit gateStart antennaStart (both-fit .1) .width) pa)
+
+  pub linked : {gl al : Link} {m n : ℕ} → gl ≡ linkOf g → al ≡ linkOf a → m ≡ 128 → n ≡ 128 → Linked gateStart antennaStart gl al gs hs m n
+  linked {gl} {al} {m} {n} eg ea em en = record {
+    fits = both-fit .1;
+    gate = subst (λ (i : ℕ). LinkOf gateStart gl gs i) (sym em) (subst (λ (l : Link). LinkOf gateStart l gs 128) (sym eg) gate-link);
+    antenna = subst (λ (i : ℕ). LinkOf antennaStart al hs i) (sym en) (subst (λ (l : Link). LinkOf antennaStart l hs 128) (sym ea) antenna-link);
+  }
+
+-- WHAT THE RUN OVER WORDS LEAVES, of boards that are refused and of boards that are not
+module _ (k : ℕ) (s t : Start) (events : List ℕ) (r : Outcome) (gateWords antennaWords : List ℕ) where
+  pub ran-refused : refused k s t ≡ true → r .number ≡ 9 → stateOf (r .gate) ≡ seen (freshEnd s) → stateOf (r .antenna) ≡ seen (freshEnd t)
+      → r .gate .station .received ≡ 0 → r .antenna .station .received ≡ 0 → Ran k s t events r gateWords antennaWords
+  ran-refused h n x y zg za = record {
+    number = n ∙ rw h;
+    gate = x ∙ rw h;
+    antenna = y ∙ rw h;
+    gateReceived = rw h (ap (λ (i : ℕ). take i gateWords) zg);
+    antennaReceived = rw h (ap (λ (i : ℕ). take i antennaWords) za);
+  }
+
+  pub ran-events : (stations : Stations) (gateRegisters antennaRegisters : List ℕ) → refused k s t ≡ false
+      → r ≡ record {
+        number = 0;
+        gate = record { station = stations .gate; registers = gateRegisters };
+        antenna = record { station = stations .antenna; registers = antennaRegisters };
+      }
+      → pairOf stations gateWords gateRegisters antennaWords antennaRegisters ≡ pairAfter s t (eventsOf events) → Ran k s t events r gateWords antennaWords
+  ran-events stations gateRegisters antennaRegisters h e came = record {
+    number = ap (λ (x : Outcome). x .number) e ∙ rw h;
+    gate = ap (λ (x : Outcome). stateOf (x .gate)) e ∙ ap (λ (p : Pair). seen (p .gate)) came ∙ rw h;
+    antenna = ap (λ (x : Outcome). stateOf (x .antenna)) e ∙ ap (λ (p : Pair). seen (p .antenna)) came ∙ rw h;
+    gateReceived = ap (λ (x : Outcome). take (x .gate .station .received) gateWords) e ∙ ap (λ (p : Pair). p .gate .received) came ∙ rw h;
+    antennaReceived = ap (λ (x : Outcome). take (x .antenna .station .received) antennaWords) e ∙ ap (λ (p : Pair). p .antenna .received) came ∙ rw h;
+  }
 
 -- DEMAND 3 of what the code holds
 pub agreement-left : (g a : Start) → unfit g a ≡ false → Elements (elementBits g) (started g) → Elements (elementBits a) (started a) → (bytes : List ℕ) (x y : Seen) (gateBuffer antennaBuffer : List ℕ)
@@ -153,23 +183,94 @@ agreement-left g a fits small-g small-a bytes x y gb ab ex ey eg ea =
     (subst (λ (b : List ℕ). Agreement g a vs (seen (p .gate)) (seen (p .antenna)) b ab) (sym eg)
     (subst (λ (b : List ℕ). Agreement g a vs (seen (p .gate)) (seen (p .antenna)) (bufferOf g (p .gate)) b) (sym ea) (agreement g a fits small-g small-a vs))))
 
--- WHAT IS LEFT
-pub state-left : {st st′ : Station} {gs gs′ : List ℕ} → st ≡ st′ → gs ≡ gs′ → stationSeen st gs ≡ stationSeen st′ gs′
-state-left a b = ap₂ stationSeen a b
-
-left-eq : {n n′ : ℕ} {x x′ y y′ : Seen} {g g′ a a′ : Slices} → n ≡ n′ → x ≡ x′ → y ≡ y′ → g ≡ g′ → a ≡ a′
-    → _≡_ {A = TrialLeft} (record { number = n; gate = x; antenna = y; gateReads = g; antennaReads = a }) (record { number = n′; gate = x′; antenna = y′; gateReads = g′; antennaReads = a′ })
+-- THE ENTRY, at every width: from what its parts promise to the whole
+left-eq : {n n′ : ℕ} {x x′ y y′ : Seen} {g g′ a a′ : List ℕ} → n ≡ n′ → x ≡ x′ → y ≡ y′ → g ≡ g′ → a ≡ a′
+    → _≡_ {A = TrialLeft} (record { number = n; gate = x; antenna = y; gateRead = g; antennaRead = a })
+    (record { number = n′; gate = x′; antenna = y′; gateRead = g′; antennaRead = a′ })
 left-eq a b c d e = cc
 
-module _ (g a : Board) (gr gw ar aw : Slices) (bytes : List ℕ) (r : Outcome) where
-  pub left-refused : unfit (startOf g gr gw) (startOf a ar aw) ≡ true → r .number ≡ 9 → stateOf (r .gate) ≡ seen (freshEnd (startOf g gr gw)) → stateOf (r .antenna) ≡ seen (freshEnd (startOf a ar aw))
-      → trialLeft r gr ar ≡ trialOf g a gr gw ar aw bytes
-  left-refused u n x y = left-eq n x y refl refl ∙ rw u
+-- the words that came in as elements over the buffer
+buffer-left : (k : ℕ) (s : Start) (x : End) {o : BitOrder} {n : ℕ} {rs left : List ℕ} → elementBits s ≡ k → o ≡ s .board .driver .order → n ≡ total s
+    → rs ≡ x .received → left ≡ laid (unpackWords o k n rs) (s .read) → left ≡ bufferOf s x
+buffer-left k s x {o} {n} {rs} ek eo en er h =
+    h
+    ∙ ap₂ (λ (p : BitOrder) (i : ℕ). laid (unpackWords p k i rs) (s .read)) eo en
+    ∙ ap₂ (λ (i : ℕ) (ws : List ℕ). laid (unpackWords (s .board .driver .order) i (total s) ws) (s .read)) (sym ek) er
 
-  pub left-run : {gl al : Slices} → unfit (startOf g gr gw) (startOf a ar aw) ≡ false → r .number ≡ 0
-      → stateOf (r .gate) ≡ seen (pairAfter (startOf g gr gw) (startOf a ar aw) (eventsOf bytes) .gate)
-      → stateOf (r .antenna) ≡ seen (pairAfter (startOf g gr gw) (startOf a ar aw) (eventsOf bytes) .antenna)
-      → gl ≡ placed (g .width) (bufferOf (startOf g gr gw) (pairAfter (startOf g gr gw) (startOf a ar aw) (eventsOf bytes) .gate)) gr
-      → al ≡ placed (a .width) (bufferOf (startOf a ar aw) (pairAfter (startOf g gr gw) (startOf a ar aw) (eventsOf bytes) .antenna)) ar
-      → trialLeft r gl al ≡ trialOf g a gr gw ar aw bytes
-  left-run u n x y p q = left-eq n x y p q ∙ rw u
+-- none came in
+buffer-kept : (k n : ℕ) (o : BitOrder) (read : List ℕ) {rs left : List ℕ} → rs ≡ [] → left ≡ laid (unpackWords o k n rs) read → left ≡ read
+buffer-kept k n o read er h = h ∙ ap (λ (ws : List ℕ). laid (unpackWords o k n ws) read) er
+
+started-small : (k : ℕ) (b : Board) (read write : List ℕ) → widthBits (b .width) ≡ k → Elements k read → Elements k write
+    → Elements (elementBits (startOf b read write)) (started (startOf b read write))
+started-small k b read write e hr hw = subst (λ (n : ℕ). Elements n (cond (b .inplace) read write)) (sym e) (by-place (b .inplace))
+  where
+    by-place : (p : Bool) → Elements k (cond p read write)
+    by-place true = hr
+    by-place false = hw
+
+pub total-lent : (b : Board) (read write : List ℕ) {n : ℕ} → n ≡ totalBy (b .inplace) (length read) (length write) → n ≡ total (startOf b read write)
+total-lent b read write e = e ∙ sym (total-is (startOf b read write))
+
+module _ (k : ℕ) (g a : Board) (gr gw ar aw events : List ℕ) (r : Outcome) (gws aws gl al : List ℕ) {og oa : BitOrder} {n m : ℕ}
+    (eog : og ≡ g .driver .order) (eoa : oa ≡ a .driver .order) (en : n ≡ total (startOf g gr gw)) (em : m ≡ total (startOf a ar aw))
+    (ran : Ran k (startOf g gr gw) (startOf a ar aw) events r gws aws)
+    (hg : gl ≡ laid (unpackWords og k n (take (r .gate .station .received) gws)) gr)
+    (ha : al ≡ laid (unpackWords oa k m (take (r .antenna .station .received) aws)) ar) where
+  abbrev ours : Start
+  ours = startOf g gr gw
+
+  abbrev theirs : Start
+  theirs = startOf a ar aw
+
+  -- both ends, by the test for number 9
+  abbrev ends : Bool → Pair
+  ends b = cond b (freshPair ours theirs) (pairAfter ours theirs (eventsOf events))
+
+  left-refused : refused k ours theirs ≡ true → trialLeft r gl al ≡ trialOf k g a gr gw ar aw events
+  left-refused h =
+      let nine : r .number ≡ 9 = ran .number ∙ ap (λ (b : Bool). cond b 9 0) h in
+      left-eq nine (ran .gate ∙ ap (λ (b : Bool). seen (ends b .gate)) h) (ran .antenna ∙ ap (λ (b : Bool). seen (ends b .antenna)) h)
+      (buffer-kept k n og gr (ran .gateReceived ∙ ap (λ (b : Bool). ends b .gate .received) h) hg)
+      (buffer-kept k m oa ar (ran .antennaReceived ∙ ap (λ (b : Bool). ends b .antenna .received) h) ha)
+      ∙ rw h
+
+  module _ (h : refused k ours theirs ≡ false) where
+    fits : unfit ours theirs ≡ false
+    fits = not-refused k ours theirs h .1
+
+    gate-width : elementBits ours ≡ k
+    gate-width = not-refused k ours theirs h .0
+
+    antenna-width : elementBits theirs ≡ k
+    antenna-width = sym (fit ours theirs fits .width) ∙ gate-width
+
+    gate-is : stateOf (r .gate) ≡ seen (ends false .gate)
+    gate-is = ran .gate ∙ ap (λ (b : Bool). seen (ends b .gate)) h
+
+    antenna-is : stateOf (r .antenna) ≡ seen (ends false .antenna)
+    antenna-is = ran .antenna ∙ ap (λ (b : Bool). seen (ends b .antenna)) h
+
+    gate-buffer : gl ≡ bufferOf ours (ends false .gate)
+    gate-buffer = buffer-left k ours (ends false .gate) gate-width eog en (ran .gateReceived ∙ ap (λ (b : Bool). ends b .gate .received) h) hg
+
+    antenna-buffer : al ≡ bufferOf theirs (ends false .antenna)
+    antenna-buffer = buffer-left k theirs (ends false .antenna) antenna-width eoa em (ran .antennaReceived ∙ ap (λ (b : Bool). ends b .antenna .received) h) ha
+
+    left-run : trialLeft r gl al ≡ trialOf k g a gr gw ar aw events
+    left-run =
+        let zero-number : r .number ≡ 0 = ran .number ∙ ap (λ (b : Bool). cond b 9 0) h in
+        left-eq zero-number gate-is antenna-is gate-buffer antenna-buffer ∙ rw h
+
+  -- ALL OF IT
+  pub tried : Elements k gr → Elements k gw → Elements k ar → Elements k aw → Tried k g a gr gw ar aw events r gl al
+  tried small-gr small-gw small-ar small-aw = by-test (refused k ours theirs) refl
+    where
+      by-test : (b : Bool) → refused k ours theirs ≡ b → Tried k g a gr gw ar aw events r gl al
+      by-test true h =
+          record { same = left-refused h; agreement = λ z. let q : _≡_ {A = ℕ} 9 0 = ap (λ (b : Bool). cond b 9 0) (sym h) ∙ sym (ran .number) ∙ z in absurd (omega (arith, q)) }
+      by-test false h = record {
+        same = left-run h;
+        agreement = λ z. agreement-left ours theirs (fits h) (started-small k g gr gw (gate-width h) small-gr small-gw) (started-small k a ar aw (antenna-width h) small-ar small-aw)
+            events (stateOf (r .gate)) (stateOf (r .antenna)) gl al (gate-is h) (antenna-is h) (gate-buffer h) (antenna-buffer h);
+      }

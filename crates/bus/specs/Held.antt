@@ -4,31 +4,39 @@ use Prim.Native.Nat.{ℕ, _<_, _≤_}
 use mathlib.Core.Bool.{true, false, cond}
 use mathlib.Core.List.{List, [], _∷_}
 use mathlib.Core.Path.{_≡_}
-use lib.ListN.{length, take}
+use lib.ListN.{length, take, replicate}
 use Rattle.manual.specs.declared.Cr.the-variants.{RTF, RRF}
 use Rattle.manual.specs.declared.Field.the-variants.{Cr}
 use Rattle.manual.specs.Manual.{setAll}
 use Rattle.sequences.specs.declared.access.Access.{Access}
 use Rattle.sequences.specs.declared.access.Access.the-variants.{Read, Write, Send, Receive, Done}
 use Rattle.machine.specs.declared.flush.Flush.{Flush}
+use Rattle.machine.specs.declared.flush.Flush.the-variants.{Status}
 use Rattle.machine.specs.declared.transfer.Transfer.{Transfer}
 use Rattle.machine.specs.Flush.{flushed}
 use Rattle.machine.specs.Transfer.{dueAccess}
 use Rattle.runs.specs.Drive.{wordIn}
 use Rattle.runs.specs.Run.{ended}
-use Rattle.agreement.specs.declared.board.Board.{Board}
-use Rattle.agreement.specs.Start.{Start, total, frameWords, accepted, unfit, Job, job}
-use Rattle.agreement.specs.End.{End, end}
-use Rattle.agreement.specs.Events.{pair, clockedBy, freshPair, pairAfter}
-use Rattle.agreement.specs.Agreement.{seen, bufferOf}
+use Rattle.words.specs.Buffer.{packWords}
+use Rattle.words.specs.Width.{widthBits}
+use Rattle.words.specs.Word.{laid}
+use Rattle.transfers.specs.declared.begin.Ways.the-variants.{Both}
+use Rattle.transfers.specs.Transfers.{begun}
+use Rattle.transfers.specs.Begin.{lengthPlan}
+use Rattle.agreement.specs.Start.{Start, started, total, frameWords, accepted, unfit, Job, job}
+use Rattle.agreement.specs.End.{freshWire, End, end}
+use Rattle.agreement.specs.Events.{Pair, pair, clockedBy, freshPair, pairAfter}
+use Rattle.agreement.specs.Agreement.{seen}
 use Rattle.agreement.specs.Codes.{eventsOf}
+use Rattle.bus.specs.declared.begin.Entrant.{Entrant}
 use Rattle.bus.specs.declared.clock.Stations.{Stations}
 use Rattle.bus.specs.declared.fifo.Fifo.{Fifo}
 use Rattle.bus.specs.declared.port.Port.{Port}
 use Rattle.bus.specs.declared.station.Link.{Link}
 use Rattle.bus.specs.declared.station.Station.{Station}
-use Rattle.bus.specs.View.{queueOf, wireOf, stationSeen}
-use Rattle.bus.specs.Trial.{Slices, placed, startOf}
+use Rattle.bus.specs.declared.trial.Outcome.{Outcome}
+use Rattle.bus.specs.View.{queueOf, wireOf, stateOf}
+use Rattle.bus.specs.Trial.{startOf, refused}
 
 -- a FIFO has 16 places and counts no more words
 pub record Sized (f : Fifo) : Type 0 where
@@ -75,6 +83,48 @@ Clocked eg ea g a r =
     → pair (endOf (r .gate) wg rg) (endOf (r .antenna) wa ra)
     ≡ clockedBy jg ja (queueOf (g .port .transmit)) (queueOf (a .port .transmit)) (pair (endOf g wg rg) (endOf a wa ra))
 
+-- before a clock: small exponents, and FIFOs with room
+pub record Clockable (eg ea : ℕ) (g a : Station) : Type 0 where
+  pub gateExponent : eg ≤ 4
+  pub antennaExponent : ea ≤ 4
+  pub gate : Roomy (g .port)
+  pub antenna : Roomy (a .port)
+
+-- after it: as much room, no word received, and the definition's clock
+pub record ClockMade (eg ea : ℕ) (g a : Station) (r : Stations) : Type 0 where
+  pub gate : Roomy (r .gate .port)
+  pub antenna : Roomy (r .antenna .port)
+  pub gateWords : r .gate .received ≡ g .received
+  pub antennaWords : r .antenna .received ≡ a .received
+  pub same : Clocked eg ea g a r
+
+-- what holds of both ends between two events: small exponents, FIFOs with room, and places for the words received
+pub record Room (gl al : Link) (ends : Stations) (gatePlaces antennaPlaces : ℕ) : Type 0 where
+  pub gateExponent : gl .exponent ≤ 4
+  pub antennaExponent : al .exponent ≤ 4
+  pub gate : Roomy (ends .gate .port)
+  pub antenna : Roomy (ends .antenna .port)
+  pub gateWords : ends .gate .received ≤ gatePlaces
+  pub antennaWords : ends .antenna .received ≤ antennaPlaces
+
+-- the pair, of the words received and the registers that stand beside its ends
+abbrev pub pairOf : Stations → List ℕ → List ℕ → List ℕ → List ℕ → Pair
+pairOf x gateWords gateRegisters antennaWords antennaRegisters =
+    pair (endOf (x .gate) gateWords gateRegisters) (endOf (x .antenna) antennaWords antennaRegisters)
+
+-- an end of a board that has made no access
+pub record Fresh (b : Entrant) (s : Station) : Type 0 where
+  pub port : Roomy (s .port)
+  pub none : s .received ≡ 0
+  pub stands : (words registers : List ℕ) → endOf s words registers
+      ≡ end (begun (widthBits (b .board .width)) (b .board .driver) (lengthPlan (widthBits (b .board .width)) Both (b .total))) Status []
+      freshWire registers
+
+-- what it goes by
+abbrev pub linkOf : Entrant → Link
+linkOf b =
+    record { exponent = b .board .exponent; frame = record { width = b .board .width; total = b .total; inplace = b .board .inplace } }
+
 -- a link and packed words of a board: its exponent, its words where they are sent, and room for the words that it receives
 pub record LinkOf (s : Start) (l : Link) (send : List ℕ) (places : ℕ) : Type 0 where
   pub exponent : l .exponent ≡ job s .exponent
@@ -87,30 +137,29 @@ pub record Linked (g a : Start) (gl al : Link) (gateSend antennaSend : List ℕ)
   pub gate : LinkOf g gl gateSend gatePlaces
   pub antenna : LinkOf a al antennaSend antennaPlaces
 
--- boards that fit, ready for their exchange
-pub record Ready (g a : Board) (gateTotal antennaTotal : ℕ) (ends : Stations)
-    (gateReads gateWrites antennaReads antennaWrites : Slices) (gateRegisters antennaRegisters : List ℕ) : Type 0 where
-  pub gate : gateTotal ≡ total (startOf g gateReads gateWrites)
-  pub antenna : antennaTotal ≡ total (startOf a antennaReads antennaWrites)
-  pub fits : unfit (startOf g gateReads gateWrites) (startOf a antennaReads antennaWrites) ≡ false
-  pub gatePort : Roomy (ends .gate .port)
-  pub antennaPort : Roomy (ends .antenna .port)
-  pub gateNone : ends .gate .received ≡ 0
-  pub antennaNone : ends .antenna .received ≡ 0
-  pub fresh : (gateWords antennaWords : List ℕ)
-      → pair (endOf (ends .gate) gateWords gateRegisters) (endOf (ends .antenna) antennaWords antennaRegisters)
-      ≡ freshPair (startOf g gateReads gateWrites) (startOf a antennaReads antennaWrites)
+-- a board that enters a trial of elements of k bits with these buffers: its total length, and the words packed of what it starts with
+pub record Prepared (k : ℕ) (b : Entrant) (read write send : List ℕ) : Type 0 where
+  pub length : b .total ≡ total (startOf (b .board) read write)
+  pub packed : send
+      ≡ laid (packWords (b .board .driver .order) k (b .total) (started (startOf (b .board) read write))) (replicate 128 0)
 
--- what it leaves
-pub record Exchanged (g a : Board) (gateReads gateWrites antennaReads antennaWrites : Slices) (events : List ℕ) (ends : Stations)
-    (gateRegisters antennaRegisters : List ℕ) (gateLeft antennaLeft : Slices) : Type 0 where
-  pub gate : stationSeen (ends .gate) gateRegisters
-      ≡ seen (pairAfter (startOf g gateReads gateWrites) (startOf a antennaReads antennaWrites) (eventsOf events) .gate)
-  pub antenna : stationSeen (ends .antenna) antennaRegisters
-      ≡ seen (pairAfter (startOf g gateReads gateWrites) (startOf a antennaReads antennaWrites) (eventsOf events) .antenna)
-  pub gateBuffer : gateLeft
-      ≡ placed (g .width) (bufferOf (startOf g gateReads gateWrites)
-      (pairAfter (startOf g gateReads gateWrites) (startOf a antennaReads antennaWrites) (eventsOf events) .gate)) gateReads
-  pub antennaBuffer : antennaLeft
-      ≡ placed (a .width) (bufferOf (startOf a antennaReads antennaWrites)
-      (pairAfter (startOf g gateReads gateWrites) (startOf a antennaReads antennaWrites) (eventsOf events) .antenna)) antennaReads
+-- both ends after the events; boards that are refused stay at fresh
+abbrev pub endsOf : ℕ → Start → Start → List ℕ → Pair
+endsOf k s t events = cond (refused k s t) (freshPair s t) (pairAfter s t (eventsOf events))
+
+-- what the run over FIFO words leaves of them
+pub record Ran (k : ℕ) (s t : Start) (events : List ℕ) (r : Outcome) (gateWords antennaWords : List ℕ) : Type 0 where
+  pub number : r .number ≡ cond (refused k s t) 9 0
+  pub gate : stateOf (r .gate) ≡ seen (endsOf k s t events .gate)
+  pub antenna : stateOf (r .antenna) ≡ seen (endsOf k s t events .antenna)
+  pub gateReceived : take (r .gate .station .received) gateWords ≡ endsOf k s t events .gate .received
+  pub antennaReceived : take (r .antenna .station .received) antennaWords ≡ endsOf k s t events .antenna .received
+
+-- of two boards that enter, whatever buffers their words were packed from
+pub record Exchanged (k : ℕ) (g a : Entrant) (gateSend antennaSend events : List ℕ) (r : Outcome) (gateWords antennaWords : List ℕ)
+    : Type 0 where
+  pub gatePlaces : r .gate .station .received ≤ 128
+  pub antennaPlaces : r .antenna .station .received ≤ 128
+  pub ran : (gateRead gateWrite antennaRead antennaWrite : List ℕ) → Prepared k g gateRead gateWrite gateSend
+      → Prepared k a antennaRead antennaWrite antennaSend
+      → Ran k (startOf (g .board) gateRead gateWrite) (startOf (a .board) antennaRead antennaWrite) events r gateWords antennaWords

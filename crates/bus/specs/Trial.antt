@@ -1,76 +1,72 @@
--- THE PAIR ENTRY: two boards, the slices that they are lent, and events as bytes. A board's width picks its buffers.
+-- THE PAIR ENTRY, of elements of k bits: two boards, the buffers that they are lent, and events as bytes.
 -- Assumes nothing.
 use Prim.Native.Nat.{ℕ}
-use mathlib.Core.Bool.{cond}
+use mathlib.Core.Bool.{Bool, cond, _||_}
 use mathlib.Core.List.{List}
-use Rattle.words.specs.declared.width.Width.{Width}
-use Rattle.words.specs.declared.width.Width.the-variants.{U8, U16, U32}
+use mathlib.Core.Path.{_≡_}
+use Rattle.words.specs.Width.{widthBits}
 use Rattle.agreement.specs.declared.board.Board.{Board}
-use Rattle.agreement.specs.Start.{Start, unfit}
+use Rattle.agreement.specs.Start.{Start, total, unequal, unfitBy}
 use Rattle.agreement.specs.End.{freshEnd}
 use Rattle.agreement.specs.Events.{pairAfter}
-use Rattle.agreement.specs.Agreement.{Seen, seen, bufferOf}
+use Rattle.agreement.specs.Agreement.{Seen, seen, bufferOf, Agreement}
 use Rattle.agreement.specs.Codes.{eventsOf}
 use Rattle.bus.specs.declared.trial.Outcome.{Outcome}
 use Rattle.bus.specs.View.{stateOf}
 
--- one slice a width
-pub record Slices : Type 0 where
-  pub u8 : List ℕ
-  pub u16 : List ℕ
-  pub u32 : List ℕ
+-- a board with its buffers, at fresh
+abbrev pub startOf : Board → List ℕ → List ℕ → Start
+startOf b read write = record { board = b; read = read; write = write }
 
--- of their contents
-abbrev pub slices : List ℕ → List ℕ → List ℕ → Slices
-slices a b c = record { u8 = a; u16 = b; u32 = c }
+-- number 9, of the total lengths: boards that do not fit, or, "unequal width" too, that are not of the buffers' width
+abbrev pub refusedBy : ℕ → Board → Board → ℕ → ℕ → Bool
+refusedBy k g a gateTotal antennaTotal = unequal (widthBits (g .width)) k || unfitBy g a gateTotal antennaTotal
 
--- the slice of a width
-abbrev pub pick : Width → Slices → List ℕ
-pick U8 s = s .u8
-pick U16 s = s .u16
-pick U32 s = s .u32
+-- number 9
+abbrev pub refused : ℕ → Start → Start → Bool
+refused k g a = refusedBy k (g .board) (a .board) (total g) (total a)
 
--- another slice of that width; those of other widths are always as found
-abbrev pub placed : Width → List ℕ → Slices → Slices
-placed U8 xs s = slices xs (s .u16) (s .u32)
-placed U16 xs s = slices (s .u8) xs (s .u32)
-placed U32 xs s = slices (s .u8) (s .u16) xs
-
--- a board with its slices, at fresh
-abbrev pub startOf : Board → Slices → Slices → Start
-startOf b reads writes = record { board = b; read = pick (b .width) reads; write = pick (b .width) writes }
-
--- what a trial leaves: its number, both ends, and all read slices
+-- what a trial leaves: its number, both ends, and both read buffers
 pub record TrialLeft : Type 0 where
   pub number : ℕ
   pub gate : Seen
   pub antenna : Seen
-  pub gateReads : Slices
-  pub antennaReads : Slices
+  pub gateRead : List ℕ
+  pub antennaRead : List ℕ
 
--- what the code answers, with the read slices at exit
-abbrev pub trialLeft : Outcome → Slices → Slices → TrialLeft
-trialLeft r gateReads antennaReads =
+-- what the code answers, with the read buffers at exit
+abbrev pub trialLeft : Outcome → List ℕ → List ℕ → TrialLeft
+trialLeft r gateRead antennaRead =
     record {
       number = r .number;
       gate = stateOf (r .gate);
       antenna = stateOf (r .antenna);
-      gateReads = gateReads;
-      antennaReads = antennaReads;
+      gateRead = gateRead;
+      antennaRead = antennaRead;
     }
 
 -- 9: all as found. Else the events, from fresh
-abbrev pub trialOf : Board → Board → Slices → Slices → Slices → Slices → List ℕ → TrialLeft
-trialOf g a gateReads gateWrites antennaReads antennaWrites events =
-    let s = startOf g gateReads gateWrites in
-    let t = startOf a antennaReads antennaWrites in
-    cond (unfit s t)
-    (record { number = 9; gate = seen (freshEnd s); antenna = seen (freshEnd t); gateReads = gateReads; antennaReads = antennaReads })
+abbrev pub trialOf : ℕ → Board → Board → List ℕ → List ℕ → List ℕ → List ℕ → List ℕ → TrialLeft
+trialOf k g a gateRead gateWrite antennaRead antennaWrite events =
+    let s = startOf g gateRead gateWrite in
+    let t = startOf a antennaRead antennaWrite in
+    cond (refused k s t)
+    (record { number = 9; gate = seen (freshEnd s); antenna = seen (freshEnd t); gateRead = gateRead; antennaRead = antennaRead })
     (let p = pairAfter s t (eventsOf events) in
     record {
       number = 0;
       gate = seen (p .gate);
       antenna = seen (p .antenna);
-      gateReads = placed (g .width) (bufferOf s (p .gate)) gateReads;
-      antennaReads = placed (a .width) (bufferOf t (p .antenna)) antennaReads;
+      gateRead = bufferOf s (p .gate);
+      antennaRead = bufferOf t (p .antenna);
     })
+
+-- THE PROMISE OF THE PAIR ENTRY, of the result and the read buffers that it leaves
+pub record Tried (k : ℕ) (g a : Board) (gateRead gateWrite antennaRead antennaWrite events : List ℕ) (r : Outcome)
+    (gateLeft antennaLeft : List ℕ) : Type 0 where
+  -- all of it is the definition's
+  pub same : trialLeft r gateLeft antennaLeft ≡ trialOf k g a gateRead gateWrite antennaRead antennaWrite events
+  -- and where the boards fit, demand 3 holds of it
+  pub agreement : r .number ≡ 0
+      → Agreement (startOf g gateRead gateWrite) (startOf a antennaRead antennaWrite) (eventsOf events) (stateOf (r .gate))
+      (stateOf (r .antenna)) gateLeft antennaLeft

@@ -1,23 +1,25 @@
 // What a run of the bus begins with.
-ghost use Prim.Native.Nat.{ℕ};
-ghost use mathlib.Core.List.{List, []};
 ghost use mathlib.Core.Path.{_≡_};
 ghost use Rattle.words.specs.Width.{widthBits};
-ghost use Rattle.agreement.specs.End.{end, freshWire, freshRegisters};
-ghost use Rattle.agreement.specs.Start.{unfitBy};
-ghost use Rattle.bus.specs.Begin.{totalBy, begunBy};
-ghost use Rattle.bus.specs.Held.{Roomy, endOf};
+ghost use Rattle.agreement.specs.End.{freshRegisters};
+ghost use Rattle.bus.specs.Begin.{totalBy};
+ghost use Rattle.bus.specs.Trial.{refusedBy};
+ghost use Rattle.bus.specs.Held.{Fresh, linkOf};
 use crate::port::Port;
+use crate::station::Link;
 use crate::station::Station;
 use agreement::board::Board;
 use machine::flush::Flush;
-use machine::transfer::Transfer;
-use sequences::access::Ending;
-use sequences::driver::Lpspi;
-use words::transaction::LpspiError;
-use words::transaction::Transaction;
-use words::transaction::TransactionResult;
+use runs::drive::Frame;
+use transfers::begin::Ways;
+use transfers::begin::begin;
 use words::width::Width;
+
+// A board that enters a trial, with its total length.
+pub(crate) struct Entrant {
+    pub board: Board,
+    pub total: usize,
+}
 
 // The total length, of the lengths of the buffers.
 pub(crate) fn total_of(inplace: bool, read: usize, write: usize) -> usize
@@ -32,51 +34,44 @@ pub(crate) fn total_of(inplace: bool, read: usize, write: usize) -> usize
     read
 }
 
-// The transfer: empty test, frame size, or the start.
-pub(crate) fn start(driver: Lpspi, width: Width, total: usize) -> Transfer
-    ensures { λ r. ⌜ r ≡ begunBy (widthBits width) driver total ⌝ }
+// Number 9, in a trial of that width.
+pub(crate) fn is_refused(width: Width, gate: Entrant, antenna: Entrant) -> bool
+    ensures { λ r. ⌜ r ≡ refusedBy (widthBits width) (gate .board) (antenna .board) (gate .total) (antenna .total) ⌝ }
 {
-    if total == 0 {
-        return Transfer::ended(driver, Ending::Ok);
-    }
-    let TransactionResult::Ok(transaction) = Transaction::new_words(width, total) else {
-        return Transfer::ended(driver, Ending::Err(LpspiError::FrameSize));
-    };
-    let n = width.word_count(total);
-    Transfer::start(driver, driver.bus_transaction(transaction), n, n)
-}
-
-// The pair's refusal, of the total lengths.
-pub(crate) fn is_unfit(gate: Board, antenna: Board, gate_total: usize, antenna_total: usize) -> bool
-    ensures { λ r. ⌜ r ≡ unfitBy gate antenna «gate_total» «antenna_total» ⌝ }
-{
-    if 4 < gate.exponent {
+    let ours = gate.board;
+    let theirs = antenna.board;
+    let gate_width = ours.width;
+    let antenna_width = theirs.width;
+    let bits = gate_width.bits();
+    if bits != width.bits() {
         return true;
     }
-    if 4 < antenna.exponent {
+    if 4 < ours.exponent {
         return true;
     }
-    let gate_width = gate.width;
-    let antenna_width = antenna.width;
-    if gate_width.bits() != antenna_width.bits() {
+    if 4 < theirs.exponent {
         return true;
     }
-    let gate_driver = gate.driver;
-    let antenna_driver = antenna.driver;
+    if bits != antenna_width.bits() {
+        return true;
+    }
+    let gate_driver = ours.driver;
+    let antenna_driver = theirs.driver;
     if gate_driver.bit_order().lsbf() != antenna_driver.bit_order().lsbf() {
         return true;
     }
-    gate_total != antenna_total
+    gate.total != antenna.total
 }
 
 // An end that has made no access.
-pub(crate) fn fresh_station(transfer: Transfer) -> Station
-    ensures { λ r. ⌜ Roomy (r .port) × (r .received ≡ 0)
-        ×
-        ((words registers : List ℕ) → endOf r words registers ≡ end transfer Flush.Status [] freshWire registers) ⌝ }
+pub(crate) fn fresh(entrant: Entrant) -> Station
+    ensures { λ r. ⌜ Fresh entrant r ⌝ }
 {
+    let board = entrant.board;
+    let driver = board.driver;
+    let width = board.width;
     Station {
-        transfer,
+        transfer: begin(driver, Ways::Both, width, entrant.total),
         flush: Flush::new(),
         received: 0,
         port: Port::new(),
@@ -90,4 +85,20 @@ pub(crate) fn fresh_registers() -> [u32; 30]
     let mut r = [0u32; 30];
     r[4] = 1;
     r
+}
+
+// What the end of a board goes by.
+pub(crate) fn link(entrant: Entrant) -> Link
+    ensures { λ r. ⌜ r ≡ linkOf entrant ⌝ }
+{
+    let board = entrant.board;
+    let width = board.width;
+    Link {
+        exponent: board.exponent,
+        frame: Frame {
+            width,
+            total: entrant.total,
+            inplace: board.inplace,
+        },
+    }
 }

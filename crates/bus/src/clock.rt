@@ -1,7 +1,5 @@
 // A clock of the bus.
-ghost use Prim.Native.Nat.{_≤_};
-ghost use mathlib.Core.Path.{_≡_};
-ghost use Rattle.bus.specs.Held.{Roomy, Clocked};
+ghost use Rattle.bus.specs.Held.{Clockable, ClockMade};
 use crate::station::Station;
 use words::transaction::Direction;
 
@@ -17,9 +15,8 @@ pub(crate) fn clock(
     gate_exponent: usize,
     antenna_exponent: usize,
 ) -> Stations
-    requires { ⌜ («gate_exponent» ≤ 4) × («antenna_exponent» ≤ 4) × Roomy (gate .port) × Roomy (antenna .port) ⌝ }
-    ensures { λ r. ⌜ Roomy (r .gate .port) × Roomy (r .antenna .port) × (r .gate .received ≡ gate .received)
-        × (r .antenna .received ≡ antenna .received) × Clocked «gate_exponent» «antenna_exponent» gate antenna r ⌝ }
+    requires { ⌜ Clockable «gate_exponent» «antenna_exponent» gate antenna ⌝ }
+    ensures { λ r. ⌜ ClockMade «gate_exponent» «antenna_exponent» gate antenna r ⌝ }
 {
     let g = gate.port;
     let a = antenna.port;

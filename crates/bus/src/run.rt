@@ -1,11 +1,10 @@
 // A list of events.
-ghost use Prim.Native.Nat.{_≤_};
 ghost use mathlib.Core.Path.{_≡_};
 ghost use lib.ListN.{length};
-ghost use Rattle.agreement.specs.Events.{pair, happened, pairAfter, freshPair};
+ghost use Rattle.agreement.specs.Events.{happened, pairAfter, freshPair};
 ghost use Rattle.agreement.specs.Codes.{eventsOf};
 ghost use Rattle.agreement.specs.Start.{Start};
-ghost use Rattle.bus.specs.Held.{Roomy, Stored, endOf, linkJob, Linked};
+ghost use Rattle.bus.specs.Held.{Stored, linkJob, Linked, Room, pairOf};
 use crate::clock::Stations;
 use crate::clock::clock;
 use crate::event::event_of;
@@ -27,21 +26,17 @@ fn happen(
     gate_registers: &mut [u32; 30],
     antenna_registers: &mut [u32; 30],
 ) -> Stations
-    requires { ⌜ («gate_link» .exponent ≤ 4) × («antenna_link» .exponent ≤ 4) × Roomy (stations .gate .port)
-        × Roomy (stations .antenna .port) × (stations .gate .received ≤ length (now «gate_words»))
-        × (stations .antenna .received ≤ length (now «antenna_words»)) ⌝ }
-    ensures { λ r. ⌜ Roomy (r .gate .port) × Roomy (r .antenna .port)
-        × (r .gate .received ≤ length (now («gate_words» .entry)))
-        × (r .antenna .received ≤ length (now («antenna_words» .entry)))
-        ×
-        (Stored (stations .gate) (now («gate_words» .entry))
+    requires { ⌜ Room «gate_link» «antenna_link» stations (length (now «gate_words»)) (length (now «antenna_words»)) ⌝ }
+    ensures room { λ r. ⌜ Room «gate_link» «antenna_link» r (length (now («gate_words» .entry)))
+        (length (now («antenna_words» .entry))) ⌝ }
+    ensures happened { λ r. ⌜ (Stored (stations .gate) (now («gate_words» .entry))
         → Stored (stations .antenna) (now («antenna_words» .entry))
-        → pair (endOf (r .gate) (now («gate_words» .exit)) (now («gate_registers» .exit)))
-        (endOf (r .antenna) (now («antenna_words» .exit)) (now («antenna_registers» .exit)))
+        → pairOf r (now («gate_words» .exit)) (now («gate_registers» .exit))
+        (now («antenna_words» .exit)) (now («antenna_registers» .exit))
         ≡ happened (linkJob «gate_link» (now («gate_send» .entry)))
         (linkJob «antenna_link» (now («antenna_send» .entry)))
-        (pair (endOf (stations .gate) (now («gate_words» .entry)) (now («gate_registers» .entry)))
-        (endOf (stations .antenna) (now («antenna_words» .entry)) (now («antenna_registers» .entry)))) event) ⌝ }
+        (pairOf stations (now («gate_words» .entry)) (now («gate_registers» .entry))
+        (now («antenna_words» .entry)) (now («antenna_registers» .entry))) event) ⌝ }
 {
     let gate = stations.gate;
     let antenna = stations.antenna;
@@ -90,20 +85,16 @@ pub(crate) fn run(
     gate_registers: &mut [u32; 30],
     antenna_registers: &mut [u32; 30],
 ) -> Stations
-    requires { ⌜ («gate_link» .exponent ≤ 4) × («antenna_link» .exponent ≤ 4) × Roomy (stations .gate .port)
-        × Roomy (stations .antenna .port) × (stations .gate .received ≤ length (now «gate_words»))
-        × (stations .antenna .received ≤ length (now «antenna_words»)) ⌝ }
-    ensures { λ r. ⌜ Roomy (r .gate .port) × Roomy (r .antenna .port)
-        × (r .gate .received ≤ length (now («gate_words» .entry)))
-        × (r .antenna .received ≤ length (now («antenna_words» .entry)))
-        ×
-        ((g a : Start)
+    requires { ⌜ Room «gate_link» «antenna_link» stations (length (now «gate_words»)) (length (now «antenna_words»)) ⌝ }
+    ensures room { λ r. ⌜ Room «gate_link» «antenna_link» r (length (now («gate_words» .entry)))
+        (length (now («antenna_words» .entry))) ⌝ }
+    ensures after { λ r. ⌜ ((g a : Start)
         → Linked g a «gate_link» «antenna_link» (now («gate_send» .entry)) (now («antenna_send» .entry))
         (length (now («gate_words» .entry))) (length (now («antenna_words» .entry)))
-        → pair (endOf (stations .gate) (now («gate_words» .entry)) (now («gate_registers» .entry)))
-        (endOf (stations .antenna) (now («antenna_words» .entry)) (now («antenna_registers» .entry))) ≡ freshPair g a
-        → pair (endOf (r .gate) (now («gate_words» .exit)) (now («gate_registers» .exit)))
-        (endOf (r .antenna) (now («antenna_words» .exit)) (now («antenna_registers» .exit)))
+        → pairOf stations (now («gate_words» .entry)) (now («gate_registers» .entry))
+        (now («antenna_words» .entry)) (now («antenna_registers» .entry)) ≡ freshPair g a
+        → pairOf r (now («gate_words» .exit)) (now («gate_registers» .exit))
+        (now («antenna_words» .exit)) (now («antenna_registers» .exit))
         ≡ pairAfter g a (eventsOf (now (events .entry)))) ⌝ }
 {
     let mut ends = stations;

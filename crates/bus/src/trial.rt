@@ -1,29 +1,22 @@
-// Two boards over the bus.
+// Two boards over the bus: the pair entry, for elements of 8, 16 and 32 bits.
 ghost use mathlib.Core.Path.{_≡_};
 ghost use Rattle.words.specs.Buffer.{packWords};
-ghost use Rattle.words.specs.Width.{widthBits};
 ghost use Rattle.words.specs.Word.{laid};
-ghost use Rattle.agreement.specs.Start.{total, started};
-ghost use Rattle.agreement.specs.Agreement.{Agreement};
-ghost use Rattle.agreement.specs.Codes.{eventsOf};
-ghost use Rattle.bus.specs.View.{stateOf};
-ghost use Rattle.bus.specs.Trial.{slices, pick, startOf, trialLeft, trialOf};
-ghost use Rattle.bus.specs.Held.{Ready, Exchanged};
-use crate::begin::fresh_registers;
-use crate::begin::fresh_station;
-use crate::begin::is_unfit;
-use crate::begin::start;
+ghost use Rattle.agreement.specs.Start.{started};
+ghost use Rattle.bus.specs.Trial.{startOf, Tried};
+use crate::begin::Entrant;
 use crate::begin::total_of;
-use crate::buffers::len;
-use crate::buffers::pack;
-use crate::buffers::unpack;
-use crate::clock::Stations;
-use crate::run::run;
-use crate::station::Link;
+use crate::exchange::exchange;
 use crate::station::Station;
 use agreement::board::Board;
-use runs::drive::Frame;
+use words::buffer::pack_words_u8;
+use words::buffer::pack_words_u16;
+use words::buffer::pack_words_u32;
+use words::buffer::unpack_words_u8;
+use words::buffer::unpack_words_u16;
+use words::buffer::unpack_words_u32;
 use words::transaction::Transaction;
+use words::width::Width;
 
 // What an end comes to.
 pub struct EndState {
@@ -38,274 +31,240 @@ pub struct Outcome {
     pub antenna: EndState,
 }
 
-// The words that a board sends, packed at the start.
-fn prepare(
-    board: Board,
-    total: usize,
-    read_u8: &[u8],
-    read_u16: &[u16],
-    read_u32: &[u32],
-    write_u8: &[u8],
-    write_u16: &[u16],
-    write_u32: &[u32],
-    send: &mut [u32],
-)
-    ensures { λ _. ⌜ now (send .exit)
-        ≡ laid
-        (packWords (board .driver .order) (widthBits (board .width)) total
-        (started
-        (startOf board (slices (now («read_u8» .entry)) (now («read_u16» .entry)) (now («read_u32» .entry)))
-        (slices (now («write_u8» .entry)) (now («write_u16» .entry)) (now («write_u32» .entry))))))
-        (now (send .entry)) ⌝ }
+// The words that a board sends, packed at the start: of its one buffer in place, else of its write buffer.
+fn prepare_u8(board: Board, total: usize, read: &[u8], write: &[u8], sent_words: &mut [u32])
+    ensures { λ _. ⌜ now («sent_words» .exit)
+        ≡ laid (packWords (board .driver .order) 8 total (started (startOf board (now (read .entry)) (now (write .entry)))))
+        (now («sent_words» .entry)) ⌝ }
 {
     let driver = board.driver;
     let order = driver.bit_order();
-    let width = board.width;
     if board.inplace {
-        pack(width, order, total, read_u8, read_u16, read_u32, send);
+        pack_words_u8(order, read, total, sent_words);
         return;
     }
-    pack(width, order, total, write_u8, write_u16, write_u32, send);
+    pack_words_u8(order, write, total, sent_words);
 }
 
-fn link(board: Board, total: usize) -> Link
-    ensures { λ r. ⌜ (r .exponent ≡ board .exponent) × (r .frame .width ≡ board .width) × (r .frame .total ≡ total)
-        × (r .frame .inplace ≡ board .inplace) ⌝ }
+// The words that a board sends, packed at the start: of its one buffer in place, else of its write buffer.
+fn prepare_u16(board: Board, total: usize, read: &[u16], write: &[u16], sent_words: &mut [u32])
+    ensures { λ _. ⌜ now («sent_words» .exit)
+        ≡ laid (packWords (board .driver .order) 16 total (started (startOf board (now (read .entry)) (now (write .entry)))))
+        (now («sent_words» .entry)) ⌝ }
 {
-    let width = board.width;
-    Link {
-        exponent: board.exponent,
-        frame: Frame {
-            width,
-            total,
-            inplace: board.inplace,
-        },
+    let driver = board.driver;
+    let order = driver.bit_order();
+    if board.inplace {
+        pack_words_u16(order, read, total, sent_words);
+        return;
     }
+    pack_words_u16(order, write, total, sent_words);
 }
 
-// The exchange of boards that fit.
-fn exchange(
+// The words that a board sends, packed at the start: of its one buffer in place, else of its write buffer.
+fn prepare_u32(board: Board, total: usize, read: &[u32], write: &[u32], sent_words: &mut [u32])
+    ensures { λ _. ⌜ now («sent_words» .exit)
+        ≡ laid (packWords (board .driver .order) 32 total (started (startOf board (now (read .entry)) (now (write .entry)))))
+        (now («sent_words» .entry)) ⌝ }
+{
+    let driver = board.driver;
+    let order = driver.bit_order();
+    if board.inplace {
+        pack_words_u32(order, read, total, sent_words);
+        return;
+    }
+    pack_words_u32(order, write, total, sent_words);
+}
+
+// A list of events from fresh.
+pub fn trial_u8(
     gate: Board,
     antenna: Board,
-    gate_total: usize,
-    antenna_total: usize,
-    fresh: Stations,
-    gate_read_u8: &mut [u8],
-    gate_read_u16: &mut [u16],
-    gate_read_u32: &mut [u32],
-    gate_write_u8: &[u8],
-    gate_write_u16: &[u16],
-    gate_write_u32: &[u32],
-    antenna_read_u8: &mut [u8],
-    antenna_read_u16: &mut [u16],
-    antenna_read_u32: &mut [u32],
-    antenna_write_u8: &[u8],
-    antenna_write_u16: &[u16],
-    antenna_write_u32: &[u32],
+    gate_read: &mut [u8],
+    gate_write: &[u8],
+    antenna_read: &mut [u8],
+    antenna_write: &[u8],
     events: &[u8],
-    gate_registers: &mut [u32; 30],
-    antenna_registers: &mut [u32; 30],
-) -> Stations
-    requires { ⌜ Ready gate antenna «gate_total» «antenna_total» fresh
-        (slices (now («gate_read_u8»)) (now («gate_read_u16»)) (now («gate_read_u32»)))
-        (slices (now («gate_write_u8»)) (now («gate_write_u16»)) (now («gate_write_u32»)))
-        (slices (now («antenna_read_u8»)) (now («antenna_read_u16»)) (now («antenna_read_u32»)))
-        (slices (now («antenna_write_u8»)) (now («antenna_write_u16»)) (now («antenna_write_u32»)))
-        (now «gate_registers») (now «antenna_registers») ⌝ }
-    ensures { λ r. ⌜ Exchanged gate antenna
-        (slices (now («gate_read_u8» .entry)) (now («gate_read_u16» .entry)) (now («gate_read_u32» .entry)))
-        (slices (now («gate_write_u8» .entry)) (now («gate_write_u16» .entry)) (now («gate_write_u32» .entry)))
-        (slices (now («antenna_read_u8» .entry)) (now («antenna_read_u16» .entry)) (now («antenna_read_u32» .entry)))
-        (slices (now («antenna_write_u8» .entry)) (now («antenna_write_u16» .entry))
-        (now («antenna_write_u32» .entry))) (now (events .entry)) r (now («gate_registers» .exit))
-        (now («antenna_registers» .exit))
-        (slices (now («gate_read_u8» .exit)) (now («gate_read_u16» .exit)) (now («gate_read_u32» .exit)))
-        (slices (now («antenna_read_u8» .exit)) (now («antenna_read_u16» .exit)) (now («antenna_read_u32» .exit))) ⌝ }
+) -> Outcome
+    ensures { λ r. ⌜ Tried 8 gate antenna (now («gate_read» .entry)) (now («gate_write» .entry))
+        (now («antenna_read» .entry)) (now («antenna_write» .entry)) (now (events .entry)) r
+        (now («gate_read» .exit)) (now («antenna_read» .exit)) ⌝ }
 {
-    let mut gate_send = [0u32; Transaction::MAX_WORDS];
-    let mut antenna_send = [0u32; Transaction::MAX_WORDS];
-    prepare(
-        gate,
-        gate_total,
-        &gate_read_u8[..],
-        &gate_read_u16[..],
-        &gate_read_u32[..],
-        gate_write_u8,
-        gate_write_u16,
-        gate_write_u32,
-        &mut gate_send,
-    );
-    prepare(
+    let gate_total = total_of(gate.inplace, gate_read.len(), gate_write.len());
+    let antenna_total = total_of(antenna.inplace, antenna_read.len(), antenna_write.len());
+    let mut gate_sent = [0u32; Transaction::MAX_WORDS];
+    let mut antenna_sent = [0u32; Transaction::MAX_WORDS];
+    prepare_u8(gate, gate_total, &gate_read[..], gate_write, &mut gate_sent);
+    prepare_u8(
         antenna,
         antenna_total,
-        &antenna_read_u8[..],
-        &antenna_read_u16[..],
-        &antenna_read_u32[..],
-        antenna_write_u8,
-        antenna_write_u16,
-        antenna_write_u32,
-        &mut antenna_send,
+        &antenna_read[..],
+        antenna_write,
+        &mut antenna_sent,
     );
     let mut gate_words = [0u32; Transaction::MAX_WORDS];
     let mut antenna_words = [0u32; Transaction::MAX_WORDS];
-    let ends = run(
-        events,
-        fresh,
-        link(gate, gate_total),
-        link(antenna, antenna_total),
-        &gate_send,
-        &antenna_send,
+    let ours = Entrant {
+        board: gate,
+        total: gate_total,
+    };
+    let theirs = Entrant {
+        board: antenna,
+        total: antenna_total,
+    };
+    let outcome = exchange(
+        Width::U8,
+        ours,
+        theirs,
+        &gate_sent,
+        &antenna_sent,
         &mut gate_words,
         &mut antenna_words,
-        gate_registers,
-        antenna_registers,
+        events,
     );
-    let gate_end = ends.gate;
-    let antenna_end = ends.antenna;
-    let gate_received = gate_end.received;
-    let antenna_received = antenna_end.received;
+    let gate_received = outcome.gate.station.received;
+    let antenna_received = outcome.antenna.station.received;
     let gate_driver = gate.driver;
     let antenna_driver = antenna.driver;
-    let gate_width = gate.width;
-    let antenna_width = antenna.width;
-    unpack(
-        gate_width,
+    unpack_words_u8(
         gate_driver.bit_order(),
-        gate_total,
         &gate_words[..gate_received],
-        gate_read_u8,
-        gate_read_u16,
-        gate_read_u32,
+        gate_total,
+        gate_read,
     );
-    unpack(
-        antenna_width,
+    unpack_words_u8(
         antenna_driver.bit_order(),
-        antenna_total,
         &antenna_words[..antenna_received],
-        antenna_read_u8,
-        antenna_read_u16,
-        antenna_read_u32,
+        antenna_total,
+        antenna_read,
     );
-    ends
+    outcome
 }
 
-fn left(number: u32, ends: Stations, gate: [u32; 30], antenna: [u32; 30]) -> Outcome
-    ensures { λ r. ⌜ (r .number ≡ number) × (r .gate .station ≡ ends .gate) × (r .gate .registers ≡ gate)
-        × (r .antenna .station ≡ ends .antenna) × (r .antenna .registers ≡ antenna) ⌝ }
-{
-    let g = ends.gate;
-    let a = ends.antenna;
-    Outcome {
-        number,
-        gate: EndState {
-            station: g,
-            registers: gate,
-        },
-        antenna: EndState {
-            station: a,
-            registers: antenna,
-        },
-    }
-}
-
-// The pair entry: a list of events from fresh.
-pub fn trial(
+pub fn trial_u16(
     gate: Board,
     antenna: Board,
-    gate_read_u8: &mut [u8],
-    gate_read_u16: &mut [u16],
-    gate_read_u32: &mut [u32],
-    gate_write_u8: &[u8],
-    gate_write_u16: &[u16],
-    gate_write_u32: &[u32],
-    antenna_read_u8: &mut [u8],
-    antenna_read_u16: &mut [u16],
-    antenna_read_u32: &mut [u32],
-    antenna_write_u8: &[u8],
-    antenna_write_u16: &[u16],
-    antenna_write_u32: &[u32],
+    gate_read: &mut [u16],
+    gate_write: &[u16],
+    antenna_read: &mut [u16],
+    antenna_write: &[u16],
     events: &[u8],
 ) -> Outcome
-    ensures same { λ r. ⌜ trialLeft r
-        (slices (now («gate_read_u8» .exit)) (now («gate_read_u16» .exit)) (now («gate_read_u32» .exit)))
-        (slices (now («antenna_read_u8» .exit)) (now («antenna_read_u16» .exit)) (now («antenna_read_u32» .exit)))
-        ≡ trialOf gate antenna
-        (slices (now («gate_read_u8» .entry)) (now («gate_read_u16» .entry)) (now («gate_read_u32» .entry)))
-        (slices (now («gate_write_u8» .entry)) (now («gate_write_u16» .entry)) (now («gate_write_u32» .entry)))
-        (slices (now («antenna_read_u8» .entry)) (now («antenna_read_u16» .entry)) (now («antenna_read_u32» .entry)))
-        (slices (now («antenna_write_u8» .entry)) (now («antenna_write_u16» .entry))
-        (now («antenna_write_u32» .entry))) (now (events .entry)) ⌝ }
-    ensures agreement { λ r. ⌜ (r .number ≡ 0
-        → Agreement
-        (startOf gate
-        (slices (now («gate_read_u8» .entry)) (now («gate_read_u16» .entry)) (now («gate_read_u32» .entry)))
-        (slices (now («gate_write_u8» .entry)) (now («gate_write_u16» .entry)) (now («gate_write_u32» .entry))))
-        (startOf antenna
-        (slices (now («antenna_read_u8» .entry)) (now («antenna_read_u16» .entry)) (now («antenna_read_u32» .entry)))
-        (slices (now («antenna_write_u8» .entry)) (now («antenna_write_u16» .entry))
-        (now («antenna_write_u32» .entry)))) (eventsOf (now (events .entry))) (stateOf (r .gate))
-        (stateOf (r .antenna))
-        (pick (gate .width)
-        (slices (now («gate_read_u8» .exit)) (now («gate_read_u16» .exit)) (now («gate_read_u32» .exit))))
-        (pick (antenna .width)
-        (slices (now («antenna_read_u8» .exit)) (now («antenna_read_u16» .exit))
-        (now («antenna_read_u32» .exit))))) ⌝ }
+    ensures { λ r. ⌜ Tried 16 gate antenna (now («gate_read» .entry)) (now («gate_write» .entry))
+        (now («antenna_read» .entry)) (now («antenna_write» .entry)) (now (events .entry)) r
+        (now («gate_read» .exit)) (now («antenna_read» .exit)) ⌝ }
 {
+    let gate_total = total_of(gate.inplace, gate_read.len(), gate_write.len());
+    let antenna_total = total_of(antenna.inplace, antenna_read.len(), antenna_write.len());
+    let mut gate_sent = [0u32; Transaction::MAX_WORDS];
+    let mut antenna_sent = [0u32; Transaction::MAX_WORDS];
+    prepare_u16(gate, gate_total, &gate_read[..], gate_write, &mut gate_sent);
+    prepare_u16(
+        antenna,
+        antenna_total,
+        &antenna_read[..],
+        antenna_write,
+        &mut antenna_sent,
+    );
+    let mut gate_words = [0u32; Transaction::MAX_WORDS];
+    let mut antenna_words = [0u32; Transaction::MAX_WORDS];
+    let ours = Entrant {
+        board: gate,
+        total: gate_total,
+    };
+    let theirs = Entrant {
+        board: antenna,
+        total: antenna_total,
+    };
+    let outcome = exchange(
+        Width::U16,
+        ours,
+        theirs,
+        &gate_sent,
+        &antenna_sent,
+        &mut gate_words,
+        &mut antenna_words,
+        events,
+    );
+    let gate_received = outcome.gate.station.received;
+    let antenna_received = outcome.antenna.station.received;
     let gate_driver = gate.driver;
     let antenna_driver = antenna.driver;
-    let gate_width = gate.width;
-    let antenna_width = antenna.width;
-    let gate_read = len(
-        gate_width,
-        &gate_read_u8[..],
-        &gate_read_u16[..],
-        &gate_read_u32[..],
-    );
-    let antenna_read = len(
-        antenna_width,
-        &antenna_read_u8[..],
-        &antenna_read_u16[..],
-        &antenna_read_u32[..],
-    );
-    let gate_write = len(gate_width, gate_write_u8, gate_write_u16, gate_write_u32);
-    let antenna_write = len(
-        antenna_width,
-        antenna_write_u8,
-        antenna_write_u16,
-        antenna_write_u32,
-    );
-    let gate_total = total_of(gate.inplace, gate_read, gate_write);
-    let antenna_total = total_of(antenna.inplace, antenna_read, antenna_write);
-    let fresh = Stations {
-        gate: fresh_station(start(gate_driver, gate_width, gate_total)),
-        antenna: fresh_station(start(antenna_driver, antenna_width, antenna_total)),
-    };
-    let mut gate_registers = fresh_registers();
-    let mut antenna_registers = fresh_registers();
-    if is_unfit(gate, antenna, gate_total, antenna_total) {
-        return left(9, fresh, gate_registers, antenna_registers);
-    }
-    let ends = exchange(
-        gate,
-        antenna,
+    unpack_words_u16(
+        gate_driver.bit_order(),
+        &gate_words[..gate_received],
         gate_total,
-        antenna_total,
-        fresh,
-        gate_read_u8,
-        gate_read_u16,
-        gate_read_u32,
-        gate_write_u8,
-        gate_write_u16,
-        gate_write_u32,
-        antenna_read_u8,
-        antenna_read_u16,
-        antenna_read_u32,
-        antenna_write_u8,
-        antenna_write_u16,
-        antenna_write_u32,
-        events,
-        &mut gate_registers,
-        &mut antenna_registers,
+        gate_read,
     );
-    left(0, ends, gate_registers, antenna_registers)
+    unpack_words_u16(
+        antenna_driver.bit_order(),
+        &antenna_words[..antenna_received],
+        antenna_total,
+        antenna_read,
+    );
+    outcome
+}
+
+pub fn trial_u32(
+    gate: Board,
+    antenna: Board,
+    gate_read: &mut [u32],
+    gate_write: &[u32],
+    antenna_read: &mut [u32],
+    antenna_write: &[u32],
+    events: &[u8],
+) -> Outcome
+    ensures { λ r. ⌜ Tried 32 gate antenna (now («gate_read» .entry)) (now («gate_write» .entry))
+        (now («antenna_read» .entry)) (now («antenna_write» .entry)) (now (events .entry)) r
+        (now («gate_read» .exit)) (now («antenna_read» .exit)) ⌝ }
+{
+    let gate_total = total_of(gate.inplace, gate_read.len(), gate_write.len());
+    let antenna_total = total_of(antenna.inplace, antenna_read.len(), antenna_write.len());
+    let mut gate_sent = [0u32; Transaction::MAX_WORDS];
+    let mut antenna_sent = [0u32; Transaction::MAX_WORDS];
+    prepare_u32(gate, gate_total, &gate_read[..], gate_write, &mut gate_sent);
+    prepare_u32(
+        antenna,
+        antenna_total,
+        &antenna_read[..],
+        antenna_write,
+        &mut antenna_sent,
+    );
+    let mut gate_words = [0u32; Transaction::MAX_WORDS];
+    let mut antenna_words = [0u32; Transaction::MAX_WORDS];
+    let ours = Entrant {
+        board: gate,
+        total: gate_total,
+    };
+    let theirs = Entrant {
+        board: antenna,
+        total: antenna_total,
+    };
+    let outcome = exchange(
+        Width::U32,
+        ours,
+        theirs,
+        &gate_sent,
+        &antenna_sent,
+        &mut gate_words,
+        &mut antenna_words,
+        events,
+    );
+    let gate_received = outcome.gate.station.received;
+    let antenna_received = outcome.antenna.station.received;
+    let gate_driver = gate.driver;
+    let antenna_driver = antenna.driver;
+    unpack_words_u32(
+        gate_driver.bit_order(),
+        &gate_words[..gate_received],
+        gate_total,
+        gate_read,
+    );
+    unpack_words_u32(
+        antenna_driver.bit_order(),
+        &antenna_words[..antenna_received],
+        antenna_total,
+        antenna_read,
+    );
+    outcome
 }

@@ -1,1 +1,3 @@
 pub mod BoundLaws
+pub mod PollLaws
+pub mod StartLaws

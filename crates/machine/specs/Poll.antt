@@ -42,3 +42,18 @@ abbrev pub polled : Direction → Poll → ℕ → Polled
 polled d Status v = cond (failed d v) Failed (Next Sizes)
 polled d Sizes v = Next (Counts v)
 polled d (Counts param) v = cond (ready d param v) Ready Unready
+
+-- a poll goes on only where an answer neither fails nor settles it
+abbrev pub onward : Polled → Polled → Polled
+onward Failed next = Failed
+onward (Next p) next = next
+onward Ready next = Ready
+onward Unready next = Unready
+
+-- from the read of PARAM on
+abbrev pub fromSizes : Direction → ℕ → ℕ → Polled
+fromSizes d param counts = onward (polled d Sizes param) (polled d (Counts param) counts)
+
+-- A WHOLE POLL, of the answers to its three reads
+abbrev pub whole : Direction → ℕ → ℕ → ℕ → Polled
+whole d status param counts = onward (polled d Status status) (fromSizes d param counts)

@@ -2,8 +2,8 @@
 -- until it must wait or ends, then the receiving side, over again; an error in one ends both.
 -- Assumes nothing.
 use Prim.Native.Nat.{ℕ, _+_}
-use mathlib.Core.Bool.{cond}
-use lib.Dec.{ltb}
+use mathlib.Core.Bool.{Bool, true, false, cond, _&&_}
+use lib.Dec.{eqb, ltb}
 use Rattle.manual.specs.declared.Register.the-variants.{TCR}
 use Rattle.words.specs.declared.transaction.Direction.{Direction}
 use Rattle.words.specs.declared.transaction.Direction.the-variants.{Tx, Rx}
@@ -14,7 +14,7 @@ use Rattle.sequences.specs.declared.access.Ending.{Ending}
 use Rattle.sequences.specs.declared.access.Ending.the-variants.{Ok, Err}
 use Rattle.sequences.specs.declared.driver.Lpspi.{Lpspi}
 use Rattle.machine.specs.declared.poll.Poll.{Poll}
-use Rattle.machine.specs.declared.poll.Poll.the-variants.{Status}
+use Rattle.machine.specs.declared.poll.Poll.the-variants.{Status, Sizes, Counts}
 use Rattle.machine.specs.declared.poll.Polled.{Polled}
 use Rattle.machine.specs.declared.poll.Polled.the-variants.{Failed, Next, Ready, Unready}
 use Rattle.sequences.specs.declared.sequence.Sequence.{Sequence}
@@ -34,8 +34,12 @@ abbrev work : ℕ → ℕ → ℕ → Work
 work command send receive =
     record { command = command; send = send; receive = receive; sent = 0; received = 0 }
 
+-- it waits for a place for its command; `reset` is where a recovery would begin
+abbrev pub atStart : Sequence → ℕ → ℕ → ℕ → Transfer
+atStart reset command send receive = at (Space Status) (work command send receive) reset
+
 abbrev pub startTransfer : Lpspi → ℕ → ℕ → ℕ → Transfer
-startTransfer d command send receive = at (Space Status) (work command send receive) (sequenceStart d)
+startTransfer d command send receive = atStart (sequenceStart d) command send receive
 
 -- an empty transfer, or a refused one, makes no access
 abbrev pub endedTransfer : Lpspi → Ending → Transfer
@@ -135,3 +139,22 @@ resumedIn (Ended e) w r v = at (Ended e) w r
 
 unfoldable pub resumed : Transfer → ℕ → Transfer
 resumed t v = resumedIn (t .phase) (t .work) (t .reset) v
+
+-- whether it stands at its start: the first poll for the command's place, and no word done
+abbrev startsPoll : Poll → Bool
+startsPoll Status = true
+startsPoll Sizes = false
+startsPoll (Counts param) = false
+
+abbrev pub startsIn : Stage → Bool
+startsIn (Space p) = startsPoll p
+startsIn Command = false
+startsIn (Sending p) = false
+startsIn Send = false
+startsIn (Receiving p) = false
+startsIn Receive = false
+startsIn (Recovery d) = false
+startsIn (Ended e) = false
+
+abbrev pub isAtStart : Transfer → Bool
+isAtStart t = startsIn (t .phase) && (eqb (t .work .sent) 0 && eqb (t .work .received) 0)

@@ -1,6 +1,6 @@
 // One poll of a FIFO: the status, the FIFO sizes, the counts.
 ghost use mathlib.Core.Path.{_≡_};
-ghost use Rattle.machine.specs.Poll.{pollAccess, polled, depth, failed, ready};
+ghost use Rattle.machine.specs.Poll.{pollAccess, polled, fromSizes, whole, depth, failed, ready};
 use manual::Field;
 use manual::Fsr;
 use manual::Param;
@@ -82,5 +82,29 @@ pub(crate) fn poll_answered(direction: Direction, poll: Poll, value: u32) -> Pol
                 Polled::Unready
             }
         }
+    }
+}
+
+// A whole poll from the read of PARAM on.
+fn from_sizes(direction: Direction, param: u32, counts: u32) -> Polled
+    ensures { λ r. ⌜ r ≡ fromSizes direction param counts ⌝ }
+{
+    match poll_answered(direction, Poll::Sizes, param) {
+        Polled::Failed => Polled::Failed,
+        Polled::Next(_) => poll_answered(direction, Poll::Counts(param), counts),
+        Polled::Ready => Polled::Ready,
+        Polled::Unready => Polled::Unready,
+    }
+}
+
+// A whole poll, of the answers to its three reads.
+pub fn whole(direction: Direction, status: u32, param: u32, counts: u32) -> Polled
+    ensures { λ r. ⌜ r ≡ whole direction status param counts ⌝ }
+{
+    match poll_answered(direction, Poll::Status, status) {
+        Polled::Failed => Polled::Failed,
+        Polled::Next(_) => from_sizes(direction, param, counts),
+        Polled::Ready => Polled::Ready,
+        Polled::Unready => Polled::Unready,
     }
 }

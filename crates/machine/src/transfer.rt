@@ -1,6 +1,6 @@
 // The machine of a transfer.
 ghost use mathlib.Core.Path.{_≡_};
-ghost use Rattle.machine.specs.Transfer.{startTransfer, endedTransfer, sendTurn, receiveTurn, turnOf, counted, oneSent, oneReceived, afterSpace, afterSending, afterReceiving, afterRecovery, at, turnAt, dueAccess, resumed};
+ghost use Rattle.machine.specs.Transfer.{startTransfer, endedTransfer, sendTurn, receiveTurn, turnOf, counted, oneSent, oneReceived, afterSpace, afterSending, afterReceiving, afterRecovery, at, turnAt, startsIn, isAtStart, dueAccess, resumed};
 use crate::poll::Poll;
 use crate::poll::Polled;
 use crate::poll::poll_access;
@@ -103,6 +103,26 @@ fn one_received(work: Work) -> Work
     w
 }
 
+// The first poll for the command's place.
+fn starts(phase: Stage) -> bool
+    ensures { λ r. ⌜ r ≡ startsIn phase ⌝ }
+{
+    match phase {
+        Stage::Space(poll) => match poll {
+            Poll::Status => true,
+            Poll::Sizes => false,
+            Poll::Counts(_) => false,
+        },
+        Stage::Command => false,
+        Stage::Sending(_) => false,
+        Stage::Send => false,
+        Stage::Receiving(_) => false,
+        Stage::Receive => false,
+        Stage::Recovery(_) => false,
+        Stage::Ended(_) => false,
+    }
+}
+
 fn after_space(poll: Poll, value: u32) -> Stage
     ensures { λ r. ⌜ r ≡ afterSpace poll value ⌝ }
 {
@@ -178,6 +198,27 @@ impl Transfer {
             },
             reset: Sequence::start(driver),
         }
+    }
+
+    // It has made no access and is to wait for a place for its command.
+    pub fn is_at_start(self) -> bool
+        ensures { λ r. ⌜ r ≡ isAtStart self ⌝ }
+    {
+        let phase = self.phase;
+        let work = self.work;
+        if starts(phase) {
+            if work.sent == 0 {
+                return work.received == 0;
+            }
+        }
+        false
+    }
+
+    // What it works with.
+    pub fn work(self) -> Work
+        ensures { λ r. ⌜ r ≡ self .work ⌝ }
+    {
+        self.work
     }
 
     // The same transfer once its command is out and so many words are done, at the turn of a side.

@@ -20,13 +20,11 @@ use Rattle.sequences.specs.declared.access.Access.{Access}
 use Rattle.sequences.specs.declared.access.Access.the-variants.{Read, Write, Send, Receive, Done}
 use Rattle.sequences.specs.declared.access.Ending.{Ending}
 use Rattle.sequences.specs.declared.access.Ending.the-variants.{Limits}
-use Rattle.sequences.specs.declared.driver.Lpspi.{Lpspi}
 use Rattle.machine.specs.declared.transfer.Transfer.{Transfer}
-use Rattle.machine.specs.Transfer.{startTransfer, counted, dueAccess, resumed}
+use Rattle.machine.specs.Transfer.{counted, dueAccess, resumed}
 use Rattle.runs.specs.declared.drive.Driven.{Driven}
 use Rattle.runs.specs.declared.drive.Frame.{Frame}
 use Rattle.runs.specs.declared.drive.Spot.{Spot}
-use Rattle.runs.specs.declared.turns.Count.{Count}
 use Rattle.runs.specs.Run.{Logged, codeOf, valueOf, usesOf, answerOf, receivedAfter, halted, endingOf, times, State, start, step, afterAccess, limits, logOver, put}
 use Rattle.runs.specs.Drive.{wordIn, gotAfter, wordsAfter, stored, sentFrom, wordsStates, Stands, DrivenLeft, drivenLeft, drivenBy, wordsRun}
 use Rattle.runs.proofs.RunLaws.{run-add, run-halted, run-last, log-put}
@@ -180,19 +178,22 @@ unfolding times
 stands-start f script send old olds t = record { machine = refl; used = refl; pairs = refl; got = zero-min (length olds); size = refl; held = refl; placed = refl }
 
 -- THE CALL: number 5, or the run
-module _ (d : Lpspi) (command : ℕ) (n : Count) (f : Frame) (budget : ℕ) (script send log olds : List ℕ) where
+module _ (t : Transfer) (f : Frame) (budget : ℕ) (script send log olds : List ℕ) where
   pub words-limits : limits budget log ≡ true
-      → drivenLeft (record { ending = Limits; spot = record { made = 0; used = 0; received = 0 } }) log olds ≡ wordsRun d command n f budget script send log olds
+      → drivenLeft (record { ending = Limits; spot = record { made = 0; used = 0; received = 0 } }) log olds
+      ≡ wordsRun t f budget script send log olds
   unfolding wordsRun
   words-limits e = rw e
 
-  pub words-run : limits budget log ≡ false → drivenBy log olds (wordsStates f script send olds (startTransfer d command (n .send) (n .receive)) budget) ≡ wordsRun d command n f budget script send log olds
+  pub words-run : limits budget log ≡ false
+      → drivenBy log olds (wordsStates f script send olds t budget) ≡ wordsRun t f budget script send log olds
   unfolding wordsRun
   words-run e = rw e
 
 -- the words that are stored have places
 stored-fits : (b : Bool) (x : Driven) (log′ words′ log olds : List ℕ) (s : State Transfer)
-    → drivenLeft x log′ words′ ≡ cond b (drivenLeft (record { ending = Limits; spot = record { made = 0; used = 0; received = 0 } }) log olds) (drivenBy log olds s)
+    → drivenLeft x log′ words′
+    ≡ cond b (drivenLeft (record { ending = Limits; spot = record { made = 0; used = 0; received = 0 } }) log olds) (drivenBy log olds s)
     → x .spot .received ≤ length words′
 unfolding drivenBy
 stored-fits true x log′ words′ log olds s e = let r = ap (λ (y : DrivenLeft). y .driven .spot .received) e in omega (arith, r)
@@ -201,11 +202,11 @@ stored-fits false x log′ words′ log olds s e =
     let l = ap (λ (y : DrivenLeft). length (y .words)) e ∙ length-laid (s .received) olds in
     omega (arith, r, l)
 
-module _ (d : Lpspi) (command : ℕ) (n : Count) (f : Frame) (budget : ℕ) (script send log olds : List ℕ) {x : Driven} {log′ words′ : List ℕ}
-    (e : drivenLeft x log′ words′ ≡ wordsRun d command n f budget script send log olds) where
+module _ (t : Transfer) (f : Frame) (budget : ℕ) (script send log olds : List ℕ) {x : Driven} {log′ words′ : List ℕ}
+    (e : drivenLeft x log′ words′ ≡ wordsRun t f budget script send log olds) where
   pub words-stored : x .spot .received ≤ length words′
   unfolding wordsRun
-  words-stored = stored-fits (limits budget log) x log′ words′ log olds (wordsStates f script send olds (startTransfer d command (n .send) (n .receive)) budget) e
+  words-stored = stored-fits (limits budget log) x log′ words′ log olds (wordsStates f script send olds t budget) e
 
   pub words-length : x .spot .received ≡ length (take (x .spot .received) words′)
   words-length = omega (arith, words-stored, length-take (x .spot .received) words′)

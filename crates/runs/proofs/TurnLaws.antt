@@ -15,7 +15,6 @@ use Rattle.manual.specs.Manual.{offsetOf}
 use Rattle.words.specs.declared.transaction.Direction.{Direction}
 use Rattle.words.specs.declared.transaction.Direction.the-variants.{Tx, Rx}
 use Rattle.sequences.specs.declared.access.Access.the-variants.{Read, Write, Send as SendWord, Receive as ReceiveWord}
-use Rattle.sequences.specs.declared.driver.Lpspi.{Lpspi}
 use Rattle.machine.specs.declared.poll.Poll.{Poll}
 use Rattle.machine.specs.declared.poll.Poll.the-variants.{Status, Sizes, Counts}
 use Rattle.sequences.specs.declared.sequence.Sequence.{Sequence}
@@ -23,15 +22,18 @@ use Rattle.machine.specs.declared.transfer.Stage.{Stage}
 use Rattle.machine.specs.declared.transfer.Stage.the-variants.{Space, Command, Sending, Send, Receiving, Receive}
 use Rattle.machine.specs.declared.transfer.Work.{Work}
 use Rattle.machine.specs.declared.transfer.Transfer.{Transfer}
-use Rattle.machine.specs.Poll.{pollAccess}
-use Rattle.machine.specs.Transfer.{at, counted, worked, turnAt, sendTurn, receiveTurn, startTransfer, dueAccess, resumed}
+use Rattle.machine.specs.declared.poll.Polled.{Polled}
+use Rattle.machine.specs.declared.poll.Polled.the-variants.{Next, Ready as ready, Unready as unready}
+use Rattle.machine.specs.Poll.{pollAccess, polled}
+use Rattle.machine.specs.Transfer.{at, counted, worked, turnAt, sendTurn, receiveTurn, spaceBy, sendingBy, receivingBy, atStart, dueAccess, resumed}
+use Rattle.machine.proofs.PollLaws.{Settled, settled-ready, settled-unready}
 use Rattle.runs.specs.declared.drive.Frame.{Frame}
-use Rattle.runs.specs.declared.turns.Count.{Count}
-use Rattle.runs.specs.declared.turns.Turns.{Turns}
-use Rattle.runs.specs.declared.turns.Shown.{Shown}
-use Rattle.runs.specs.declared.turns.Spaced.{Spaced}
-use Rattle.runs.specs.declared.turns.Turn.{Turn}
-use Rattle.runs.specs.declared.turns.Turn.the-variants.{Made}
+use Rattle.runs.specs.declared.fast.turns.Count.{Count}
+use Rattle.runs.specs.declared.fast.turns.Turns.{Turns}
+use Rattle.runs.specs.declared.fast.turns.Shown.{Shown}
+use Rattle.runs.specs.declared.fast.ahead.Spaced.{Spaced}
+use Rattle.runs.specs.declared.fast.turns.Turn.{Turn}
+use Rattle.runs.specs.declared.fast.turns.Turn.the-variants.{Made}
 use Rattle.runs.specs.Run.{put}
 use Rattle.runs.specs.Drive.{wordIn, Stands}
 use Rattle.runs.specs.Turns.{spot, putPoll, Whole, Looked, otherSide, sameSide, hasMore, dueSide, isDue, Within, Onward, Turned, Waited}
@@ -56,59 +58,77 @@ module _ (f : Frame) (script send old olds : List ℕ) (m : Transfer) where
       stands-next f script send old olds m u (spot made used got) log words h (Read g) (getD script used 0) e (lt-leb (length script) used l) refl
       u′ (spot made′ used′ got) (put log made (offsetOf g) (getD script used 0)) words r (sym n) em es refl (length-put log made (offsetOf g) (getD script used 0)) refl refl
 
-  -- THE THREE READS OF A POLL
-  stands-poll : (p : Poll → Stage) (w : Work) (r : Sequence) (u : Transfer) (made used got : ℕ) (log words : List ℕ) → Stands f script send old olds m (at (p Status) w r) (spot made used got) log words
-      → used + 3 ≤ length script → 2 * (made + 3) ≤ length old → ((q : Poll) → dueAccess (at (p q) w r) ≡ pollAccess q)
-      → resumed (at (p Status) w r) (getD script used 0) ≡ at (p Sizes) w r
-      → resumed (at (p Sizes) w r) (getD script (used + 1) 0) ≡ at (p (Counts (getD script (used + 1) 0))) w r
-      → resumed (at (p (Counts (getD script (used + 1) 0))) w r) (getD script (used + 2) 0) ≡ u
-      → Stands f script send old olds m u (spot (made + 3) (used + 3) got) (putPoll log made script used) words
-  stands-poll p w r u made used got log words h l room due r₀ r₁ r₂ =
-      let param = getD script (used + 1) 0 in
-      let log₁ = put log made (offsetOf SR) (getD script used 0) in
-      let log₂ = put log₁ (made + 1) (offsetOf PARAM) param in
-      let h₁ = stands-read (at (p Status) w r) (at (p Sizes) w r) SR made used (made + 1) (used + 1) got log words h (due Status) (omega arith) (omega arith) refl refl r₀ in
-      let h₂ = stands-read (at (p Sizes) w r) (at (p (Counts param)) w r) PARAM (made + 1) (used + 1) (made + 2) (used + 2) got log₁ words h₁ (due Sizes) (omega arith) (omega arith) (omega arith) (omega arith) r₁ in
-      stands-read (at (p (Counts param)) w r) u FSR (made + 2) (used + 2) (made + 3) (used + 3) got log₂ words h₂ (due (Counts param)) (omega arith) (omega arith) (omega arith) (omega arith) r₂
+  -- THE THREE READS OF A POLL, in one of the three stages that have one, and what its result x leads to
+  module _ (d : Direction) (stage : Poll → Stage) (by : Polled → Stage) (w : Work) (r : Sequence) (x : Polled)
+      (due : (q : Poll) → dueAccess (at (stage q) w r) ≡ pollAccess q) (after : (q : Poll) (v : ℕ) → resumed (at (stage q) w r) v ≡ at (by (polled d q v)) w r)
+      (next : (q : Poll) → by (Next q) ≡ stage q) (made used got : ℕ) (log words : List ℕ) where
+    abbrev status : ℕ
+    status = getD script used 0
 
-  module _ (budget made used got : ℕ) (log log′ words : List ℕ) (wide : 2 * budget ≤ length log) where
-    -- in one of the three places, with what follows it
-    module _ (d : Direction) (p : Poll → Stage) (w : Work) (r : Sequence) (is : Bool) (whole : Whole d made used budget script log log′ is)
-        (h : Stands f script send old olds m (at (p Status) w r) (spot made used got) log words) where
-      polled : (u : Transfer) → ((q : Poll) → dueAccess (at (p q) w r) ≡ pollAccess q)
-          → resumed (at (p Status) w r) (getD script used 0) ≡ at (p Sizes) w r
-          → resumed (at (p Sizes) w r) (getD script (used + 1) 0) ≡ at (p (Counts (getD script (used + 1) 0))) w r
-          → resumed (at (p (Counts (getD script (used + 1) 0))) w r) (getD script (used + 2) 0) ≡ u
-          → Stands f script send old olds m u (spot (made + 3) (used + 3) got) log′ words
-      polled u due r₀ r₁ r₂ =
-          subst (λ (l : List ℕ). Stands f script send old olds m u (spot (made + 3) (used + 3) got) l words) (sym (whole .logged))
-          (stands-poll p w r u made used got log words h (omega (arith, whole .answers)) (omega (arith, whole .room, h .size)) due r₀ r₁ r₂)
+    abbrev param : ℕ
+    param = getD script (used + 1) 0
 
-    pub space-polled : (w : Work) (r : Sequence) (is : Bool) → Whole Tx made used budget script log log′ is → Stands f script send old olds m (at (Space Status) w r) (spot made used got) log words
-        → Stands f script send old olds m (at (cond is Command (Space Status)) w r) (spot (made + 3) (used + 3) got) log′ words
+    abbrev counts : ℕ
+    counts = getD script (used + 2) 0
+
+    comes-to : (q : Poll) (v : ℕ) (y : Polled) → polled d q v ≡ y → resumed (at (stage q) w r) v ≡ at (by y) w r
+    comes-to q v y e = after q v ∙ ap (λ (z : Polled). at (by z) w r) e
+
+    goes-on : (q q′ : Poll) (v : ℕ) → polled d q v ≡ Next q′ → resumed (at (stage q) w r) v ≡ at (stage q′) w r
+    goes-on q q′ v e = comes-to q v (Next q′) e ∙ ap (λ (g : Stage). at g w r) (next q′)
+
+    stands-poll : Stands f script send old olds m (at (stage Status) w r) (spot made used got) log words → used + 3 ≤ length script → 2 * (made + 3) ≤ length old
+        → Settled d status param counts x → Stands f script send old olds m (at (by x) w r) (spot (made + 3) (used + 3) got) (putPoll log made status param counts) words
+    stands-poll h l room s =
+        let log₁ = put log made (offsetOf SR) status in
+        let log₂ = put log₁ (made + 1) (offsetOf PARAM) param in
+        let h₁ = stands-read (at (stage Status) w r) (at (stage Sizes) w r) SR made used (made + 1) (used + 1) got log words h
+        (due Status) (omega arith) (omega arith) refl refl (goes-on Status Sizes status (s .first)) in
+        let h₂ = stands-read (at (stage Sizes) w r) (at (stage (Counts param)) w r) PARAM (made + 1) (used + 1) (made + 2) (used + 2) got log₁ words h₁
+        (due Sizes) (omega arith) (omega arith) (omega arith) (omega arith) (goes-on Sizes (Counts param) param (s .second)) in
+        stands-read (at (stage (Counts param)) w r) (at (by x) w r) FSR (made + 2) (used + 2) (made + 3) (used + 3) got log₂ words h₂
+        (due (Counts param)) (omega arith) (omega arith) (omega arith) (omega arith) (comes-to (Counts param) counts x (s .third))
+
+    -- as the code made it
+    stands-whole : (budget : ℕ) (log′ : List ℕ) → 2 * budget ≤ length log → Whole d made used budget script log log′ x → Settled d status param counts x
+        → Stands f script send old olds m (at (stage Status) w r) (spot made used got) log words
+        → Stands f script send old olds m (at (by x) w r) (spot (made + 3) (used + 3) got) log′ words
+    stands-whole budget log′ wide whole s h =
+        subst (λ (l : List ℕ). Stands f script send old olds m (at (by x) w r) (spot (made + 3) (used + 3) got) l words) (sym (whole .logged))
+        (stands-poll h (omega (arith, whole .answers)) (omega (arith, whole .room, h .size)) s)
+
+  module _ (budget made used got : ℕ) (log log′ words : List ℕ) (wide : 2 * budget ≤ length log) (w : Work) (r : Sequence) where
+    space-polled : (x : Polled) → Whole Tx made used budget script log log′ x → Settled Tx (getD script used 0) (getD script (used + 1) 0) (getD script (used + 2) 0) x
+        → Stands f script send old olds m (at (Space Status) w r) (spot made used got) log words
+        → Stands f script send old olds m (at (spaceBy x) w r) (spot (made + 3) (used + 3) got) log′ words
     unfolding dueAccess resumed
-    space-polled w r true whole h = polled Tx Space w r true whole h (at Command w r) (λ q. refl) (rw (whole .clear)) refl (rw (whole .shown))
-    space-polled w r false whole h = polled Tx Space w r false whole h (at (Space Status) w r) (λ q. refl) (rw (whole .clear)) refl (rw (whole .shown))
+    space-polled x = stands-whole Tx Space spaceBy w r x (λ q. refl) (λ q v. refl) (λ q. refl) made used got log words budget log′ wide
 
-    sending-polled : (w : Work) (r : Sequence) (is : Bool) → Whole Tx made used budget script log log′ is → Stands f script send old olds m (at (Sending Status) w r) (spot made used got) log words
-        → Stands f script send old olds m (at (cond is Send (receiveTurn w)) w r) (spot (made + 3) (used + 3) got) log′ words
+    sending-polled : (x : Polled) → Whole Tx made used budget script log log′ x → Settled Tx (getD script used 0) (getD script (used + 1) 0) (getD script (used + 2) 0) x
+        → Stands f script send old olds m (at (Sending Status) w r) (spot made used got) log words
+        → Stands f script send old olds m (at (sendingBy w x) w r) (spot (made + 3) (used + 3) got) log′ words
     unfolding dueAccess resumed
-    sending-polled w r true whole h = polled Tx Sending w r true whole h (at Send w r) (λ q. refl) (rw (whole .clear)) refl (rw (whole .shown))
-    sending-polled w r false whole h = polled Tx Sending w r false whole h (at (receiveTurn w) w r) (λ q. refl) (rw (whole .clear)) refl (rw (whole .shown))
+    sending-polled x = stands-whole Tx Sending (sendingBy w) w r x (λ q. refl) (λ q v. refl) (λ q. refl) made used got log words budget log′ wide
 
-    receiving-polled : (w : Work) (r : Sequence) (is : Bool) → Whole Rx made used budget script log log′ is → Stands f script send old olds m (at (Receiving Status) w r) (spot made used got) log words
-        → Stands f script send old olds m (at (cond is Receive (sendTurn w)) w r) (spot (made + 3) (used + 3) got) log′ words
+    receiving-polled : (x : Polled) → Whole Rx made used budget script log log′ x → Settled Rx (getD script used 0) (getD script (used + 1) 0) (getD script (used + 2) 0) x
+        → Stands f script send old olds m (at (Receiving Status) w r) (spot made used got) log words
+        → Stands f script send old olds m (at (receivingBy w x) w r) (spot (made + 3) (used + 3) got) log′ words
     unfolding dueAccess resumed
-    receiving-polled w r true whole h = polled Rx Receiving w r true whole h (at Receive w r) (λ q. refl) (rw (whole .clear)) refl (rw (whole .shown))
-    receiving-polled w r false whole h = polled Rx Receiving w r false whole h (at (sendTurn w) w r) (λ q. refl) (rw (whole .clear)) refl (rw (whole .shown))
+    receiving-polled x = stands-whole Rx Receiving (receivingBy w) w r x (λ q. refl) (λ q v. refl) (λ q. refl) made used got log words budget log′ wide
+
+    -- no place yet for the command
+    pub space-waits : Whole Tx made used budget script log log′ unready → Stands f script send old olds m (at (Space Status) w r) (spot made used got) log words
+        → Stands f script send old olds m (at (Space Status) w r) (spot (made + 3) (used + 3) got) log′ words
+    space-waits whole h = space-polled unready whole (settled-unready Tx _ _ _ (whole .shown)) h
 
     -- THE COMMAND
-    pub space-commands : (w : Work) (r : Sequence) (log″ : List ℕ) → Whole Tx made used budget script log log′ true → log″ ≡ put log′ (made + 3) (0x1000 + offsetOf TCR) (w .command)
+    pub space-commands : (log″ : List ℕ) → Whole Tx made used budget script log log′ ready → log″ ≡ put log′ (made + 3) (0x1000 + offsetOf TCR) (w .command)
         → Stands f script send old olds m (at (Space Status) w r) (spot made used got) log words
         → Stands f script send old olds m (at (sendTurn w) w r) (spot (made + 4) (used + 3) got) log″ words
     unfolding dueAccess resumed
-    space-commands w r log″ whole el h =
-        stands-next f script send old olds m (at Command w r) (spot (made + 3) (used + 3) got) log′ words (space-polled w r true whole h) (Write TCR (w .command)) (getD script (used + 3) 0) refl refl refl
+    space-commands log″ whole el h =
+        stands-next f script send old olds m (at Command w r) (spot (made + 3) (used + 3) got) log′ words
+        (space-polled ready whole (settled-ready Tx _ _ _ (whole .shown)) h) (Write TCR (w .command)) (getD script (used + 3) 0) refl refl refl
         (at (sendTurn w) w r) (spot (made + 4) (used + 3) got) log″ words (omega (arith, whole .room, h .size)) refl (omega arith) (sym (add-zero (used + 3))) refl
         (ap length el ∙ length-put log′ (made + 3) (0x1000 + offsetOf TCR) (w .command)) el refl
 
@@ -135,19 +155,19 @@ module _ (f : Frame) (script send old olds : List ℕ) (m : Transfer) where
     at-receiving e h = subst (λ (p : Stage). Stands f script send old olds m (at p w r) (spot made used got) log words) (receives w (more-to-receive e)) h
 
     -- a poll that is not ready
-    pub turn-waits : (d : Direction) → hasMore d n sent got ≡ true → Whole d made used budget script log log′ false
+    pub turn-waits : (d : Direction) → hasMore d n sent got ≡ true → Whole d made used budget script log log′ unready
         → Stands f script send old olds m (turnAt d sent got m) (spot made used got) log words
         → Stands f script send old olds m (turnAt (otherSide d) sent got m) (spot (made + 3) (used + 3) got) log′ words
-    turn-waits Tx e whole h = sending-polled budget made used got log log′ words wide w r false whole (at-sending e h)
-    turn-waits Rx e whole h = receiving-polled budget made used got log log′ words wide w r false whole (at-receiving e h)
+    turn-waits Tx e whole h = sending-polled budget made used got log log′ words wide w r unready whole (settled-unready Tx _ _ _ (whole .shown)) (at-sending e h)
+    turn-waits Rx e whole h = receiving-polled budget made used got log log′ words wide w r unready whole (settled-unready Rx _ _ _ (whole .shown)) (at-receiving e h)
 
     -- a word is sent
-    pub turn-sends : (log″ : List ℕ) → ltb sent (n .send) ≡ true → Whole Tx made used budget script log log′ true
+    pub turn-sends : (log″ : List ℕ) → ltb sent (n .send) ≡ true → Whole Tx made used budget script log log′ ready
         → log″ ≡ put log′ (made + 3) (0x1000 + offsetOf TDR) (wordIn f send words got sent) → Stands f script send old olds m (turnAt Tx sent got m) (spot made used got) log words
         → Stands f script send old olds m (turnAt Tx (sent + 1) got m) (spot (made + 4) (used + 3) got) log″ words
     unfolding dueAccess resumed
     turn-sends log″ e whole el h =
-        let h₁ = sending-polled budget made used got log log′ words wide w r true whole (at-sending e h) in
+        let h₁ = sending-polled budget made used got log log′ words wide w r ready whole (settled-ready Tx _ _ _ (whole .shown)) (at-sending e h) in
         let one : sent + 1 ≡ cond (ltb sent (m .work .send)) (sent + 1) sent = rw (more-to-send e) in
         stands-next f script send old olds m (at Send w r) (spot (made + 3) (used + 3) got) log′ words h₁ (SendWord sent) (getD script (used + 3) 0) refl refl refl
         (turnAt Tx (sent + 1) got m) (spot (made + 4) (used + 3) got) log″ words (omega (arith, whole .room, h .size))
@@ -155,13 +175,13 @@ module _ (f : Frame) (script send old olds : List ℕ) (m : Transfer) where
         (ap length el ∙ length-put log′ (made + 3) (0x1000 + offsetOf TDR) (wordIn f send words got sent)) el refl
 
     -- a word is received
-    pub turn-receives : (log″ words′ : List ℕ) → ltb got (n .receive) ≡ true → got < length words → Whole Rx made used budget script log log′ true
+    pub turn-receives : (log″ words′ : List ℕ) → ltb got (n .receive) ≡ true → got < length words → Whole Rx made used budget script log log′ ready
         → log″ ≡ put log′ (made + 3) (offsetOf RDR) (getD script (used + 3) 0) → words′ ≡ set words got (getD script (used + 3) 0)
         → Stands f script send old olds m (turnAt Rx sent got m) (spot made used got) log words
         → Stands f script send old olds m (turnAt Rx sent (got + 1) m) (spot (made + 4) (used + 4) (got + 1)) log″ words′
     unfolding dueAccess resumed
     turn-receives log″ words′ e place whole el ew h =
-        let h₁ = receiving-polled budget made used got log log′ words wide w r true whole (at-receiving e h) in
+        let h₁ = receiving-polled budget made used got log log′ words wide w r ready whole (settled-ready Rx _ _ _ (whole .shown)) (at-receiving e h) in
         let one : got + 1 ≡ cond (ltb got (m .work .receive)) (got + 1) got = rw (more-to-receive e) in
         stands-next f script send old olds m (at Receive w r) (spot (made + 3) (used + 3) got) log′ words h₁ (ReceiveWord got) (getD script (used + 3) 0) refl (lt-leb (length script) (used + 3) (omega (arith, whole .answers))) refl
         (turnAt Rx sent (got + 1) m) (spot (made + 4) (used + 4) (got + 1)) log″ words′ (omega (arith, whole .room, h .size))
@@ -183,7 +203,7 @@ module _ (f : Frame) (script send old olds : List ℕ) (m : Transfer) where
 
 -- what a turn promises, from the poll and the callee that made it
 module _ (f : Frame) (script send : List ℕ) (n : Count) (budget : ℕ) (t : Turns) (log log′ words : List ℕ) (wide : 2 * budget ≤ length log) (in′ : Within budget (length words) t) where
-  pub made-waits : hasMore (t .side) n (t .sent) (t .spot .received) ≡ true → Whole (t .side) (t .spot .made) (t .spot .used) budget script log log′ false
+  pub made-waits : hasMore (t .side) n (t .sent) (t .spot .received) ≡ true → Whole (t .side) (t .spot .made) (t .spot .used) budget script log log′ unready
       → Turned f script send n budget t log words log′ words (Made (record { side = otherSide (t .side); sent = t .sent; spot = spot (t .spot .made + 3) (t .spot .used + 3) (t .spot .received) }))
   made-waits e whole = (
     omega arith,
@@ -191,7 +211,7 @@ module _ (f : Frame) (script send : List ℕ) (n : Count) (budget : ℕ) (t : Tu
     λ m old olds en er h. turn-waits f script send old olds m n en er budget (t .spot .made) (t .spot .used) (t .spot .received) (t .sent) log log′ words wide (t .side) e whole h,
   )
 
-  pub made-sends : (log″ : List ℕ) → t .side ≡ Tx → ltb (t .sent) (n .send) ≡ true → Whole Tx (t .spot .made) (t .spot .used) budget script log log′ true
+  pub made-sends : (log″ : List ℕ) → t .side ≡ Tx → ltb (t .sent) (n .send) ≡ true → Whole Tx (t .spot .made) (t .spot .used) budget script log log′ ready
       → log″ ≡ put log′ (t .spot .made + 3) (0x1000 + offsetOf TDR) (wordIn f send words (t .spot .received) (t .sent))
       → Turned f script send n budget t log words log″ words (Made (record { side = t .side; sent = t .sent + 1; spot = spot (t .spot .made + 4) (t .spot .used + 3) (t .spot .received) }))
   made-sends log″ es e whole el = (
@@ -203,7 +223,7 @@ module _ (f : Frame) (script send : List ℕ) (n : Count) (budget : ℕ) (t : Tu
         (subst (λ (d : Direction). Stands f script send old olds m (turnAt d (t .sent) (t .spot .received) m) (t .spot) log words) es h)),
   )
 
-  pub made-receives : (log″ words′ : List ℕ) → t .side ≡ Rx → ltb (t .spot .received) (n .receive) ≡ true → n .receive ≤ length words → Whole Rx (t .spot .made) (t .spot .used) budget script log log′ true
+  pub made-receives : (log″ words′ : List ℕ) → t .side ≡ Rx → ltb (t .spot .received) (n .receive) ≡ true → n .receive ≤ length words → Whole Rx (t .spot .made) (t .spot .used) budget script log log′ ready
       → log″ ≡ put log′ (t .spot .made + 3) (offsetOf RDR) (getD script (t .spot .used + 3) 0) → words′ ≡ set words (t .spot .received) (getD script (t .spot .used + 3) 0)
       → Turned f script send n budget t log words log″ words′ (Made (record { side = t .side; sent = t .sent; spot = spot (t .spot .made + 4) (t .spot .used + 4) (counted (t .spot .received) (length words)) }))
   made-receives log″ words′ es e places whole el ew =
@@ -251,12 +271,12 @@ pub as-turn : (f : Frame) (script send : List ℕ) (n : Count) (budget : ℕ) (t
 as-turn f script send n budget t log words log′ words′ r r′ e h = subst (Turned f script send n budget t log words log′ words′) e h
 
 -- from the start to the first turn
-module _ (f : Frame) (script send words log log′ : List ℕ) (d : Lpspi) (command n m : ℕ) (r : Spaced) (waited : Waited command script (spot 0 0 0) log r log′) where
+module _ (f : Frame) (script send words log log′ : List ℕ) (q : Sequence) (command n m : ℕ) (r : Spaced) (waited : Waited command script (spot 0 0 0) log r log′) where
   abbrev begins : Transfer
-  begins = startTransfer d command n m
+  begins = atStart q command n m
 
   waited-from-start : Stands f script send log words begins (cond (r .commanded) (turnAt Tx 0 0 begins) begins) (r .spot) log′ words
-  waited-from-start = waited f send words d n m log words (stands-start f script send log words begins)
+  waited-from-start = waited f send words q n m log words (stands-start f script send log words begins)
 
   pub stands-commanded : r .commanded ≡ true → r .spot .received ≡ 0 → Stands f script send log words begins (turnAt Tx 0 (r .spot .received) begins) (r .spot) log′ words
   stands-commanded e z =

@@ -16,11 +16,10 @@ use Rattle.sequences.specs.declared.driver.Lpspi.{Lpspi}
 use Rattle.machine.specs.declared.transfer.Transfer.{Transfer}
 use Rattle.sequences.specs.declared.access.Ending.the-variants.{Limits}
 use Rattle.sequences.specs.Access.{numberOf}
-use Rattle.machine.specs.Transfer.{startTransfer, dueAccess, resumed}
+use Rattle.machine.specs.Transfer.{dueAccess, resumed}
 use Rattle.runs.specs.declared.drive.Frame.{Frame}
 use Rattle.runs.specs.declared.drive.Spot.{Spot}
 use Rattle.runs.specs.declared.drive.Driven.{Driven}
-use Rattle.runs.specs.declared.turns.Count.{Count}
 use Rattle.runs.specs.declared.result.RunResult.{RunResult}
 use Rattle.runs.specs.Run.{State, start, run, limits, endingOf, logOver}
 
@@ -89,8 +88,8 @@ drivenBy old olds s =
 abbrev pub resultOf : Lpspi → Driven → RunResult
 resultOf d r = record { ending = r .ending; accesses = r .spot .made; answers = r .spot .used; driver = d }
 
--- A TRANSFER OVER FIFO WORDS: number 5, all as found, or the run from its start
-unfoldable pub wordsRun : Lpspi → ℕ → Count → Frame → ℕ → List ℕ → List ℕ → List ℕ → List ℕ → DrivenLeft
-wordsRun d command n f budget script send log olds =
+-- A TRANSFER OVER FIFO WORDS: number 5, all as found, or the run of t from where it stands
+unfoldable pub wordsRun : Transfer → Frame → ℕ → List ℕ → List ℕ → List ℕ → List ℕ → DrivenLeft
+wordsRun t f budget script send log olds =
     cond (limits budget log) (drivenLeft (record { ending = Limits; spot = record { made = 0; used = 0; received = 0 } }) log olds)
-    (drivenBy log olds (wordsStates f script send olds (startTransfer d command (n .send) (n .receive)) budget))
+    (drivenBy log olds (wordsStates f script send olds t budget))

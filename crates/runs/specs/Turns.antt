@@ -10,19 +10,22 @@ use Rattle.manual.specs.declared.Register.the-variants.{SR, PARAM, FSR}
 use Rattle.manual.specs.Manual.{offsetOf}
 use Rattle.words.specs.declared.transaction.Direction.{Direction}
 use Rattle.words.specs.declared.transaction.Direction.the-variants.{Tx, Rx}
-use Rattle.sequences.specs.declared.driver.Lpspi.{Lpspi}
+use Rattle.sequences.specs.declared.sequence.Sequence.{Sequence}
 use Rattle.machine.specs.declared.transfer.Transfer.{Transfer}
-use Rattle.machine.specs.Poll.{failed, ready}
-use Rattle.machine.specs.Transfer.{startTransfer, turnAt}
+use Rattle.machine.specs.declared.poll.Polled.{Polled}
+use Rattle.machine.specs.declared.poll.Polled.the-variants.{Ready as ready, Unready as unready}
+use Rattle.machine.specs.Poll.{whole}
+use Rattle.machine.specs.Transfer.{atStart, turnAt}
 use Rattle.runs.specs.declared.drive.Frame.{Frame}
 use Rattle.runs.specs.declared.drive.Spot.{Spot}
-use Rattle.runs.specs.declared.turns.Shown.{Shown}
-use Rattle.runs.specs.declared.turns.Shown.the-variants.{Rare, Unready, Ready}
-use Rattle.runs.specs.declared.turns.Count.{Count}
-use Rattle.runs.specs.declared.turns.Turns.{Turns}
-use Rattle.runs.specs.declared.turns.Turn.{Turn}
-use Rattle.runs.specs.declared.turns.Turn.the-variants.{Made, Undone}
-use Rattle.runs.specs.declared.turns.Spaced.{Spaced}
+use Rattle.runs.specs.declared.fast.turns.Shown.{Shown}
+use Rattle.runs.specs.declared.fast.turns.Shown.the-variants.{Rare, Unready, Ready}
+use Rattle.runs.specs.declared.fast.turns.Count.{Count}
+use Rattle.runs.specs.declared.fast.turns.Turns.{Turns}
+use Rattle.runs.specs.declared.fast.turns.Turn.{Turn}
+use Rattle.runs.specs.declared.fast.turns.Turn.the-variants.{Made, Undone}
+use Rattle.runs.specs.declared.fast.ahead.Reached.{Reached}
+use Rattle.runs.specs.declared.fast.ahead.Spaced.{Spaced}
 use Rattle.runs.specs.Run.{put}
 use Rattle.runs.specs.Drive.{Stands}
 
@@ -30,22 +33,21 @@ abbrev pub spot : ℕ → ℕ → ℕ → Spot
 spot made used received = record { made = made; used = used; received = received }
 
 -- the three pairs of a poll
-abbrev pub putPoll : List ℕ → ℕ → List ℕ → ℕ → List ℕ
-putPoll log made script used =
-    put (put (put log made (offsetOf SR) (getD script used 0)) (made + 1) (offsetOf PARAM) (getD script (used + 1) 0)) (made + 2) (offsetOf FSR) (getD script (used + 2) 0)
+abbrev pub putPoll : List ℕ → ℕ → ℕ → ℕ → ℕ → List ℕ
+putPoll log made status param counts =
+    put (put (put log made (offsetOf SR) status) (made + 1) (offsetOf PARAM) param) (made + 2) (offsetOf FSR) counts
 
--- a poll of a side was made whole and shows no error; the access after it fits, too
-pub record Whole (d : Direction) (made used budget : ℕ) (script log log′ : List ℕ) (is : Bool) : Type 0 where
+-- a poll of a side was made whole and comes to x; the access after it fits, too
+pub record Whole (d : Direction) (made used budget : ℕ) (script log log′ : List ℕ) (x : Polled) : Type 0 where
   pub room : made + 4 ≤ budget
   pub answers : used + 4 ≤ length script
-  pub clear : failed d (getD script used 0) ≡ false
-  pub shown : ready d (getD script (used + 1) 0) (getD script (used + 2) 0) ≡ is
-  pub logged : log′ ≡ putPoll log made script used
+  pub shown : whole d (getD script used 0) (getD script (used + 1) 0) (getD script (used + 2) 0) ≡ x
+  pub logged : log′ ≡ putPoll log made (getD script used 0) (getD script (used + 1) 0) (getD script (used + 2) 0)
 
 abbrev pub Looked : Direction → ℕ → ℕ → ℕ → List ℕ → List ℕ → List ℕ → Shown → Type 0
 Looked d made used budget script log log′ Rare = log′ ≡ log
-Looked d made used budget script log log′ Unready = Whole d made used budget script log log′ false
-Looked d made used budget script log log′ Ready = Whole d made used budget script log log′ true
+Looked d made used budget script log log′ Unready = Whole d made used budget script log log′ unready
+Looked d made used budget script log log′ Ready = Whole d made used budget script log log′ ready
 
 abbrev pub otherSide : Direction → Direction
 otherSide Tx = Rx
@@ -89,9 +91,18 @@ module _ (f : Frame) (script send : List ℕ) where
   Turned n budget t log words log′ words′ (Made u) =
       (t .spot .made < u .spot .made) × Within budget (length words) u × Onward n t log words u log′ words′
 
--- the waiting for a place for the command
+-- the waiting for a place for the command, of a transfer that stands at its start, whatever it has to send and receive
 abbrev pub Waited : ℕ → List ℕ → Spot → List ℕ → Spaced → List ℕ → Type 0
 Waited command script s log r log′ =
-    (f : Frame) (send words : List ℕ) (d : Lpspi) (n m : ℕ) (old olds : List ℕ)
-    → Stands f script send old olds (startTransfer d command n m) (startTransfer d command n m) s log words
-    → Stands f script send old olds (startTransfer d command n m) (cond (r .commanded) (turnAt Tx 0 0 (startTransfer d command n m)) (startTransfer d command n m)) (r .spot) log′ words
+    (f : Frame) (send words : List ℕ) (q : Sequence) (n m : ℕ) (old olds : List ℕ)
+    → Stands f script send old olds (atStart q command n m) (atStart q command n m) s log words
+    → Stands f script send old olds (atStart q command n m)
+    (cond (r .commanded) (turnAt Tx 0 0 (atStart q command n m)) (atStart q command n m)) (r .spot) log′ words
+
+-- a run from the transfer t was taken ahead: what the code holds is still the run's
+pub record Ahead (f : Frame) (script send : List ℕ) (budget : ℕ) (t : Transfer) (log words : List ℕ) (r : Reached)
+    (log′ words′ : List ℕ) : Type 0 where
+  pub made : r .spot .made ≤ budget
+  pub used : r .spot .used ≤ r .spot .made
+  pub received : r .spot .received ≤ length words
+  pub stands : Stands f script send log words t (r .transfer) (r .spot) log′ words′

@@ -56,42 +56,48 @@ fn overlaid(frame: Frame, received: usize, i: usize) -> bool
 }
 
 // The word that is sent from a place.
-pub fn word_in(frame: Frame, send: &[u32], words: &[u32], received: usize, i: usize) -> u32
-    ensures { λ r. ⌜ r ≡ wordIn frame (now (send .entry)) (now (words .entry)) received i ⌝ }
+pub fn word_in(
+    frame: Frame,
+    sent_words: &[u32],
+    received_words: &[u32],
+    received: usize,
+    i: usize,
+) -> u32
+    ensures { λ r. ⌜ r ≡ wordIn frame (now («sent_words» .entry)) (now («received_words» .entry)) received i ⌝ }
 {
     if overlaid(frame, received, i) {
         let width = frame.width;
-        return cut_word(width, frame.total, i, answer(words, i));
+        return cut_word(width, frame.total, i, answer(received_words, i));
     }
-    answer(send, i)
+    answer(sent_words, i)
 }
 
 // The second number of its pair in the log.
 fn value_of(
     access: Access,
     frame: Frame,
-    send: &[u32],
-    words: &[u32],
+    sent_words: &[u32],
+    received_words: &[u32],
     received: usize,
     value: u32,
 ) -> u32
-    ensures { λ r. ⌜ r ≡ valueOf (wordIn frame (now (send .entry)) (now (words .entry)) received) access value ⌝ }
+    ensures { λ r. ⌜ r ≡ valueOf (wordIn frame (now («sent_words» .entry)) (now («received_words» .entry)) received) access value ⌝ }
 {
     match access {
         Access::Read(_) => value,
         Access::Write(_, w) => w,
-        Access::Send(i) => word_in(frame, send, words, received, i),
+        Access::Send(i) => word_in(frame, sent_words, received_words, received, i),
         Access::Receive(_) => value,
         Access::Done(_) => 0,
     }
 }
 
 // A received word is stored after those before it. The words that are stored then.
-pub(crate) fn store(words: &mut [u32], received: usize, value: u32) -> usize
-    ensures { λ r. ⌜ (r ≡ counted received (length (now (words .entry)))) × (now (words .exit) ≡ set (now (words .entry)) received value) ⌝ }
+pub(crate) fn store(received_words: &mut [u32], received: usize, value: u32) -> usize
+    ensures { λ r. ⌜ (r ≡ counted received (length (now («received_words» .entry)))) × (now («received_words» .exit) ≡ set (now («received_words» .entry)) received value) ⌝ }
 {
-    if received < words.len() {
-        words[received] = value;
+    if received < received_words.len() {
+        received_words[received] = value;
         received + 1
     } else {
         received
@@ -99,14 +105,14 @@ pub(crate) fn store(words: &mut [u32], received: usize, value: u32) -> usize
 }
 
 // What an access received is stored. The words that are stored then.
-pub fn keep(access: Access, words: &mut [u32], received: usize, value: u32) -> usize
-    ensures { λ r. ⌜ (r ≡ gotAfter access received (length (now (words .entry)))) × (now (words .exit) ≡ wordsAfter access (now (words .entry)) received value) ⌝ }
+pub fn keep(access: Access, received_words: &mut [u32], received: usize, value: u32) -> usize
+    ensures { λ r. ⌜ (r ≡ gotAfter access received (length (now («received_words» .entry)))) × (now («received_words» .exit) ≡ wordsAfter access (now («received_words» .entry)) received value) ⌝ }
 {
     match access {
         Access::Read(_) => received,
         Access::Write(_, _) => received,
         Access::Send(_) => received,
-        Access::Receive(_) => store(words, received, value),
+        Access::Receive(_) => store(received_words, received, value),
         Access::Done(_) => received,
     }
 }
@@ -119,14 +125,14 @@ pub(crate) fn drive(
     budget: usize,
     script: &[u32],
     log: &mut [u32],
-    send: &[u32],
-    words: &mut [u32],
+    sent_words: &[u32],
+    received_words: &mut [u32],
 ) -> Driven
     requires room { ⌜ 2 * budget ≤ length (now log) ⌝ }
     requires within { ⌜ spot .made ≤ budget ⌝ }
     requires answered { ⌜ spot .used ≤ spot .made ⌝ }
-    requires inside { ⌜ spot .received ≤ length (now words) ⌝ }
-    ensures { λ r. ⌜ ((t : Machine) (old olds : List ℕ) → Stands frame (now (script .entry)) (now (send .entry)) old olds t transfer spot (now (log .entry)) (now (words .entry)) → drivenLeft r (now (log .exit)) (now (words .exit)) ≡ drivenBy old olds (wordsStates frame (now (script .entry)) (now (send .entry)) olds t budget)) ⌝ }
+    requires inside { ⌜ spot .received ≤ length (now «received_words») ⌝ }
+    ensures { λ r. ⌜ ((t : Machine) (old olds : List ℕ) → Stands frame (now (script .entry)) (now («sent_words» .entry)) old olds t transfer spot (now (log .entry)) (now («received_words» .entry)) → drivenLeft r (now (log .exit)) (now («received_words» .exit)) ≡ drivenBy old olds (wordsStates frame (now (script .entry)) (now («sent_words» .entry)) olds t budget)) ⌝ }
 {
     let mut t = transfer;
     let mut made = spot.made;
@@ -145,9 +151,9 @@ pub(crate) fn drive(
             log,
             made,
             code_of(access),
-            value_of(access, frame, send, words, received, value),
+            value_of(access, frame, sent_words, received_words, received, value),
         );
-        received = keep(access, words, received, value);
+        received = keep(access, received_words, received, value);
         made += 1;
         used += uses_of(access);
         t = t.answered(answer_of(access, value));

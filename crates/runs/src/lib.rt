@@ -2,8 +2,8 @@
 mod access;
 pub mod call;
 pub mod drive;
+mod fast;
 pub mod flush;
 pub mod log;
 pub mod result;
 pub mod transfer;
-pub mod turns;

@@ -1,3 +1,4 @@
 pub mod CallLaws
 mod TransferLaws
+mod BeginLaws
 mod EntryLaws

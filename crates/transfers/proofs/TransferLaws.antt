@@ -54,48 +54,6 @@ accepted-words U8 total a = let b = accepted-between (8 * total) a in omega arit
 accepted-words U16 total a = let b = accepted-between (16 * total) a in omega arith
 accepted-words U32 total a = let b = accepted-between (32 * total) a in omega arith
 
-module _ (k : ℕ) (d : Lpspi) (p : Plan) (buffer : List ℕ) (budget : ℕ) (script log : List ℕ) where
-  -- NO ACCESS: the transfer has ended where it begins
-  pub left-unstarted : (e : Ending) → limits budget log ≡ false → begun k d p ≡ endedTransfer d e
-      → transferLeft (record { ending = e; accesses = 0; answers = 0; driver = d }) log buffer ≡ transferred k d p buffer budget script log
-  unfolding dueAccess
-  left-unstarted e h b =
-      let s : transferStates k d p script budget ≡ start (endedTransfer d e) =
-      ap (λ (t : Transfer). run dueAccess resumed (p .words) script budget (start t)) b ∙ run-halted dueAccess resumed (p .words) script budget (start (endedTransfer d e)) refl in
-      rw (h, s)
-
-  -- THE RUN, from the length and the counts that the code has
-  module _ (f : Frame) (send olds : List ℕ) (len n m command : ℕ) (et : len ≡ p .total) (en : n ≡ p .send) (em : m ≡ p .receive) (h : limits budget log ≡ false)
-      (some : len ≡ 0 → ⊥) (a : frameAccepted (k * len) ≡ true) (c : command ≡ p .command (driverCommand d (setField (Tcr FRAMESZ) (k * len - 1) 0)))
-      (w : (rs : List ℕ) (i : ℕ) → sentFrom f send olds rs i ≡ p .words rs i) where
-    abbrev coded : State Transfer
-    coded = wordsStates f script send olds (startTransfer d command n m) budget
-
-    begins : startTransfer d command n m ≡ begun k d p
-    begins =
-        ap₂ (startTransfer d command) en em
-        ∙ rw (ne-eqb (p .total) 0 (λ (e : p .total ≡ 0). some (et ∙ e)), ap (λ (x : ℕ). frameAccepted (k * x)) (sym et) ∙ a)
-        (ap (λ (x : ℕ). startTransfer d x (p .send) (p .receive)) (c ∙ ap (λ (x : ℕ). p .command (driverCommand d (setField (Tcr FRAMESZ) (k * x - 1) 0))) et))
-
-    same-transferStates : coded ≡ transferStates k d p script budget
-    same-transferStates =
-        run-words dueAccess resumed script (sentFrom f send olds) (p .words) w budget (start (startTransfer d command n m))
-        ∙ ap (λ (t : Transfer). run dueAccess resumed (p .words) script budget (start t)) begins
-
-    -- `given` is the buffer as the code makes it of what the run leaves
-    pub left-run : (given : DrivenLeft → List ℕ) → ((s : State Transfer) → given (drivenBy log olds s) ≡ laid (unpackWords (d .order) k (p .total) (s .received)) buffer)
-        → (r : RunResult) (x : Driven) (log′ words′ : List ℕ) → drivenLeft x log′ words′ ≡ drivenBy log olds coded → r ≡ resultOf d x
-        → transferLeft r log′ (given (drivenLeft x log′ words′)) ≡ transferred k d p buffer budget script log
-    unfolding drivenBy
-    left-run given shown r x log′ words′ e er =
-        ap (λ (y : RunResult). transferLeft y log′ (given (drivenLeft x log′ words′))) er
-        ∙ ap (λ (y : DrivenLeft). transferLeft (resultOf d (y .driven)) (y .log) (given y)) e
-        ∙ ap (λ (s : State Transfer). record {
-          call = left (record { ending = endingOf (dueAccess (s .machine)); accesses = length (s .log); answers = s .used; driver = d }) (logOver log (s .log));
-          buffer = given (drivenBy log olds s);
-        }) same-transferStates
-        ∙ rw (h, shown (transferStates k d p script budget))
-
 -- THE WORDS THAT ARE STORED give the elements of all words received
 pub stored-elements : (o : BitOrder) (k total : ℕ) (rs olds : List ℕ) → 0 < perWord k → wordCount k total ≤ length olds
     → unpackWords o k total (take (stored rs olds) (laid rs olds)) ≡ unpackWords o k total rs

@@ -1,1 +1,3 @@
+-- Read in this order.
 pub mod Transfers
+pub mod Begin

@@ -1,13 +1,11 @@
 // `exchange`: transmit a buffer and receive into it.
 ghost use mathlib.Core.Path.{_≡_};
 ghost use Rattle.transfers.specs.Transfers.{transferLeft, exchange};
+use crate::begin::Ways;
 use crate::entry::result;
+use crate::entry::transfer;
 use runs::drive::Frame;
-use runs::log::limits;
 use runs::result::RunResult;
-use runs::transfer::run_words;
-use runs::turns::Count;
-use sequences::access::Ending;
 use sequences::driver::Lpspi;
 use words::buffer::pack_words_u8;
 use words::buffer::pack_words_u16;
@@ -15,9 +13,7 @@ use words::buffer::pack_words_u32;
 use words::buffer::unpack_words_u8;
 use words::buffer::unpack_words_u16;
 use words::buffer::unpack_words_u32;
-use words::transaction::LpspiError;
 use words::transaction::Transaction;
-use words::transaction::TransactionResult;
 use words::width::Width;
 
 pub fn exchange_u8(
@@ -30,22 +26,8 @@ pub fn exchange_u8(
     ensures { λ r. ⌜ transferLeft r (now (log .exit)) (now (buf .exit))
         ≡ exchange 8 driver (now (buf .entry)) budget (now (script .entry)) (now (log .entry)) ⌝ }
 {
-    if limits(budget, log) {
-        return RunResult::unmoved(driver, Ending::Limits);
-    }
     let total = buf.len();
-    if total == 0 {
-        return RunResult::unmoved(driver, Ending::Ok);
-    }
-    let TransactionResult::Ok(transaction) = Transaction::new_u8s(buf) else {
-        return RunResult::unmoved(driver, Ending::Err(LpspiError::FrameSize));
-    };
     let order = driver.bit_order();
-    let n = Width::U8.word_count(total);
-    let count = Count {
-        send: n,
-        receive: n,
-    };
     let frame = Frame {
         width: Width::U8,
         total,
@@ -54,10 +36,9 @@ pub fn exchange_u8(
     let mut send = [0u32; Transaction::MAX_WORDS];
     let mut words = [0u32; Transaction::MAX_WORDS];
     pack_words_u8(order, buf, total, &mut send);
-    let driven = run_words(
+    let driven = transfer(
         driver,
-        driver.bus_transaction(transaction),
-        count,
+        Ways::Both,
         frame,
         budget,
         script,
@@ -81,22 +62,8 @@ pub fn exchange_u16(
     ensures { λ r. ⌜ transferLeft r (now (log .exit)) (now (buf .exit))
         ≡ exchange 16 driver (now (buf .entry)) budget (now (script .entry)) (now (log .entry)) ⌝ }
 {
-    if limits(budget, log) {
-        return RunResult::unmoved(driver, Ending::Limits);
-    }
     let total = buf.len();
-    if total == 0 {
-        return RunResult::unmoved(driver, Ending::Ok);
-    }
-    let TransactionResult::Ok(transaction) = Transaction::new_u16s(buf) else {
-        return RunResult::unmoved(driver, Ending::Err(LpspiError::FrameSize));
-    };
     let order = driver.bit_order();
-    let n = Width::U16.word_count(total);
-    let count = Count {
-        send: n,
-        receive: n,
-    };
     let frame = Frame {
         width: Width::U16,
         total,
@@ -105,10 +72,9 @@ pub fn exchange_u16(
     let mut send = [0u32; Transaction::MAX_WORDS];
     let mut words = [0u32; Transaction::MAX_WORDS];
     pack_words_u16(order, buf, total, &mut send);
-    let driven = run_words(
+    let driven = transfer(
         driver,
-        driver.bus_transaction(transaction),
-        count,
+        Ways::Both,
         frame,
         budget,
         script,
@@ -132,22 +98,8 @@ pub fn exchange_u32(
     ensures { λ r. ⌜ transferLeft r (now (log .exit)) (now (buf .exit))
         ≡ exchange 32 driver (now (buf .entry)) budget (now (script .entry)) (now (log .entry)) ⌝ }
 {
-    if limits(budget, log) {
-        return RunResult::unmoved(driver, Ending::Limits);
-    }
     let total = buf.len();
-    if total == 0 {
-        return RunResult::unmoved(driver, Ending::Ok);
-    }
-    let TransactionResult::Ok(transaction) = Transaction::new_u32s(buf) else {
-        return RunResult::unmoved(driver, Ending::Err(LpspiError::FrameSize));
-    };
     let order = driver.bit_order();
-    let n = Width::U32.word_count(total);
-    let count = Count {
-        send: n,
-        receive: n,
-    };
     let frame = Frame {
         width: Width::U32,
         total,
@@ -156,10 +108,9 @@ pub fn exchange_u32(
     let mut send = [0u32; Transaction::MAX_WORDS];
     let mut words = [0u32; Transaction::MAX_WORDS];
     pack_words_u32(order, buf, total, &mut send);
-    let driven = run_words(
+    let driven = transfer(
         driver,
-        driver.bus_transaction(transaction),
-        count,
+        Ways::Both,
         frame,
         budget,
         script,

@@ -1,13 +1,11 @@
 // `exchange_separate`: transmit one buffer and receive into the other, of any lengths.
 ghost use mathlib.Core.Path.{_≡_};
 ghost use Rattle.transfers.specs.Transfers.{transferLeft, exchangeSeparate};
+use crate::begin::Ways;
 use crate::entry::result;
+use crate::entry::transfer;
 use runs::drive::Frame;
-use runs::log::limits;
 use runs::result::RunResult;
-use runs::transfer::run_words;
-use runs::turns::Count;
-use sequences::access::Ending;
 use sequences::driver::Lpspi;
 use words::buffer::pack_words_u8;
 use words::buffer::pack_words_u16;
@@ -18,9 +16,7 @@ use words::buffer::unpack_words_u32;
 use words::longer::longer_u8;
 use words::longer::longer_u16;
 use words::longer::longer_u32;
-use words::transaction::LpspiError;
 use words::transaction::Transaction;
-use words::transaction::TransactionResult;
 use words::width::Width;
 
 pub fn exchange_separate_u8(
@@ -32,26 +28,11 @@ pub fn exchange_separate_u8(
     log: &mut [u32],
 ) -> RunResult
     ensures { λ r. ⌜ transferLeft r (now (log .exit)) (now (read .exit))
-        ≡ exchangeSeparate 8 driver (now (read .entry)) (now (write .entry)) budget (now (script .entry))
-        (now (log .entry)) ⌝ }
+        ≡ exchangeSeparate 8 driver (now (read .entry)) (now (write .entry)) budget (now (script .entry)) (now (log .entry)) ⌝ }
 {
-    if limits(budget, log) {
-        return RunResult::unmoved(driver, Ending::Limits);
-    }
     let longer = longer_u8(&read[..], write);
     let total = longer.len();
-    if total == 0 {
-        return RunResult::unmoved(driver, Ending::Ok);
-    }
-    let TransactionResult::Ok(transaction) = Transaction::new_u8s(longer) else {
-        return RunResult::unmoved(driver, Ending::Err(LpspiError::FrameSize));
-    };
     let order = driver.bit_order();
-    let n = Width::U8.word_count(total);
-    let count = Count {
-        send: n,
-        receive: n,
-    };
     let frame = Frame {
         width: Width::U8,
         total,
@@ -60,10 +41,9 @@ pub fn exchange_separate_u8(
     let mut send = [0u32; Transaction::MAX_WORDS];
     let mut words = [0u32; Transaction::MAX_WORDS];
     pack_words_u8(order, write, total, &mut send);
-    let driven = run_words(
+    let driven = transfer(
         driver,
-        driver.bus_transaction(transaction),
-        count,
+        Ways::Both,
         frame,
         budget,
         script,
@@ -86,26 +66,11 @@ pub fn exchange_separate_u16(
     log: &mut [u32],
 ) -> RunResult
     ensures { λ r. ⌜ transferLeft r (now (log .exit)) (now (read .exit))
-        ≡ exchangeSeparate 16 driver (now (read .entry)) (now (write .entry)) budget (now (script .entry))
-        (now (log .entry)) ⌝ }
+        ≡ exchangeSeparate 16 driver (now (read .entry)) (now (write .entry)) budget (now (script .entry)) (now (log .entry)) ⌝ }
 {
-    if limits(budget, log) {
-        return RunResult::unmoved(driver, Ending::Limits);
-    }
     let longer = longer_u16(&read[..], write);
     let total = longer.len();
-    if total == 0 {
-        return RunResult::unmoved(driver, Ending::Ok);
-    }
-    let TransactionResult::Ok(transaction) = Transaction::new_u16s(longer) else {
-        return RunResult::unmoved(driver, Ending::Err(LpspiError::FrameSize));
-    };
     let order = driver.bit_order();
-    let n = Width::U16.word_count(total);
-    let count = Count {
-        send: n,
-        receive: n,
-    };
     let frame = Frame {
         width: Width::U16,
         total,
@@ -114,10 +79,9 @@ pub fn exchange_separate_u16(
     let mut send = [0u32; Transaction::MAX_WORDS];
     let mut words = [0u32; Transaction::MAX_WORDS];
     pack_words_u16(order, write, total, &mut send);
-    let driven = run_words(
+    let driven = transfer(
         driver,
-        driver.bus_transaction(transaction),
-        count,
+        Ways::Both,
         frame,
         budget,
         script,
@@ -140,26 +104,11 @@ pub fn exchange_separate_u32(
     log: &mut [u32],
 ) -> RunResult
     ensures { λ r. ⌜ transferLeft r (now (log .exit)) (now (read .exit))
-        ≡ exchangeSeparate 32 driver (now (read .entry)) (now (write .entry)) budget (now (script .entry))
-        (now (log .entry)) ⌝ }
+        ≡ exchangeSeparate 32 driver (now (read .entry)) (now (write .entry)) budget (now (script .entry)) (now (log .entry)) ⌝ }
 {
-    if limits(budget, log) {
-        return RunResult::unmoved(driver, Ending::Limits);
-    }
     let longer = longer_u32(&read[..], write);
     let total = longer.len();
-    if total == 0 {
-        return RunResult::unmoved(driver, Ending::Ok);
-    }
-    let TransactionResult::Ok(transaction) = Transaction::new_u32s(longer) else {
-        return RunResult::unmoved(driver, Ending::Err(LpspiError::FrameSize));
-    };
     let order = driver.bit_order();
-    let n = Width::U32.word_count(total);
-    let count = Count {
-        send: n,
-        receive: n,
-    };
     let frame = Frame {
         width: Width::U32,
         total,
@@ -168,10 +117,9 @@ pub fn exchange_separate_u32(
     let mut send = [0u32; Transaction::MAX_WORDS];
     let mut words = [0u32; Transaction::MAX_WORDS];
     pack_words_u32(order, write, total, &mut send);
-    let driven = run_words(
+    let driven = transfer(
         driver,
-        driver.bus_transaction(transaction),
-        count,
+        Ways::Both,
         frame,
         budget,
         script,

@@ -1,20 +1,16 @@
-// `read_no_write`: transmit nothing and receive into a buffer.
+// `read_no_write`: receive into a buffer and send nothing.
 ghost use mathlib.Core.Path.{_≡_};
 ghost use Rattle.transfers.specs.Transfers.{transferLeft, readNoWrite};
+use crate::begin::Ways;
 use crate::entry::result;
+use crate::entry::transfer;
 use runs::drive::Frame;
-use runs::log::limits;
 use runs::result::RunResult;
-use runs::transfer::run_words;
-use runs::turns::Count;
-use sequences::access::Ending;
 use sequences::driver::Lpspi;
 use words::buffer::unpack_words_u8;
 use words::buffer::unpack_words_u16;
 use words::buffer::unpack_words_u32;
-use words::transaction::LpspiError;
 use words::transaction::Transaction;
-use words::transaction::TransactionResult;
 use words::width::Width;
 
 pub fn read_no_write_u8(
@@ -27,22 +23,8 @@ pub fn read_no_write_u8(
     ensures { λ r. ⌜ transferLeft r (now (log .exit)) (now (buf .exit))
         ≡ readNoWrite 8 driver (now (buf .entry)) budget (now (script .entry)) (now (log .entry)) ⌝ }
 {
-    if limits(budget, log) {
-        return RunResult::unmoved(driver, Ending::Limits);
-    }
     let total = buf.len();
-    if total == 0 {
-        return RunResult::unmoved(driver, Ending::Ok);
-    }
-    let TransactionResult::Ok(transaction) = Transaction::new_u8s(buf) else {
-        return RunResult::unmoved(driver, Ending::Err(LpspiError::FrameSize));
-    };
     let order = driver.bit_order();
-    let n = Width::U8.word_count(total);
-    let count = Count {
-        send: 0,
-        receive: n,
-    };
     let frame = Frame {
         width: Width::U8,
         total,
@@ -50,12 +32,9 @@ pub fn read_no_write_u8(
     };
     let send = [0u32; 0];
     let mut words = [0u32; Transaction::MAX_WORDS];
-    let driven = run_words(
+    let driven = transfer(
         driver,
-        driver
-            .bus_transaction(transaction)
-            .with_transmit_data_mask(true),
-        count,
+        Ways::Receives,
         frame,
         budget,
         script,
@@ -79,22 +58,8 @@ pub fn read_no_write_u16(
     ensures { λ r. ⌜ transferLeft r (now (log .exit)) (now (buf .exit))
         ≡ readNoWrite 16 driver (now (buf .entry)) budget (now (script .entry)) (now (log .entry)) ⌝ }
 {
-    if limits(budget, log) {
-        return RunResult::unmoved(driver, Ending::Limits);
-    }
     let total = buf.len();
-    if total == 0 {
-        return RunResult::unmoved(driver, Ending::Ok);
-    }
-    let TransactionResult::Ok(transaction) = Transaction::new_u16s(buf) else {
-        return RunResult::unmoved(driver, Ending::Err(LpspiError::FrameSize));
-    };
     let order = driver.bit_order();
-    let n = Width::U16.word_count(total);
-    let count = Count {
-        send: 0,
-        receive: n,
-    };
     let frame = Frame {
         width: Width::U16,
         total,
@@ -102,12 +67,9 @@ pub fn read_no_write_u16(
     };
     let send = [0u32; 0];
     let mut words = [0u32; Transaction::MAX_WORDS];
-    let driven = run_words(
+    let driven = transfer(
         driver,
-        driver
-            .bus_transaction(transaction)
-            .with_transmit_data_mask(true),
-        count,
+        Ways::Receives,
         frame,
         budget,
         script,
@@ -131,22 +93,8 @@ pub fn read_no_write_u32(
     ensures { λ r. ⌜ transferLeft r (now (log .exit)) (now (buf .exit))
         ≡ readNoWrite 32 driver (now (buf .entry)) budget (now (script .entry)) (now (log .entry)) ⌝ }
 {
-    if limits(budget, log) {
-        return RunResult::unmoved(driver, Ending::Limits);
-    }
     let total = buf.len();
-    if total == 0 {
-        return RunResult::unmoved(driver, Ending::Ok);
-    }
-    let TransactionResult::Ok(transaction) = Transaction::new_u32s(buf) else {
-        return RunResult::unmoved(driver, Ending::Err(LpspiError::FrameSize));
-    };
     let order = driver.bit_order();
-    let n = Width::U32.word_count(total);
-    let count = Count {
-        send: 0,
-        receive: n,
-    };
     let frame = Frame {
         width: Width::U32,
         total,
@@ -154,12 +102,9 @@ pub fn read_no_write_u32(
     };
     let send = [0u32; 0];
     let mut words = [0u32; Transaction::MAX_WORDS];
-    let driven = run_words(
+    let driven = transfer(
         driver,
-        driver
-            .bus_transaction(transaction)
-            .with_transmit_data_mask(true),
-        count,
+        Ways::Receives,
         frame,
         budget,
         script,

@@ -1,21 +1,17 @@
 // `write_no_read`: transmit a buffer and discard what is received.
-ghost use mathlib.Core.List.{[]};
 ghost use mathlib.Core.Path.{_≡_};
+ghost use mathlib.Core.List.{[]};
 ghost use Rattle.transfers.specs.Transfers.{transferLeft, writeNoRead};
+use crate::begin::Ways;
 use crate::entry::result;
+use crate::entry::transfer;
 use runs::drive::Frame;
-use runs::log::limits;
 use runs::result::RunResult;
-use runs::transfer::run_words;
-use runs::turns::Count;
-use sequences::access::Ending;
 use sequences::driver::Lpspi;
 use words::buffer::pack_words_u8;
 use words::buffer::pack_words_u16;
 use words::buffer::pack_words_u32;
-use words::transaction::LpspiError;
 use words::transaction::Transaction;
-use words::transaction::TransactionResult;
 use words::width::Width;
 
 pub fn write_no_read_u8(
@@ -28,22 +24,8 @@ pub fn write_no_read_u8(
     ensures { λ r. ⌜ transferLeft r (now (log .exit)) []
         ≡ writeNoRead 8 driver (now (buf .entry)) budget (now (script .entry)) (now (log .entry)) ⌝ }
 {
-    if limits(budget, log) {
-        return RunResult::unmoved(driver, Ending::Limits);
-    }
     let total = buf.len();
-    if total == 0 {
-        return RunResult::unmoved(driver, Ending::Ok);
-    }
-    let TransactionResult::Ok(transaction) = Transaction::new_u8s(buf) else {
-        return RunResult::unmoved(driver, Ending::Err(LpspiError::FrameSize));
-    };
     let order = driver.bit_order();
-    let n = Width::U8.word_count(total);
-    let count = Count {
-        send: n,
-        receive: 0,
-    };
     let frame = Frame {
         width: Width::U8,
         total,
@@ -52,12 +34,9 @@ pub fn write_no_read_u8(
     let mut send = [0u32; Transaction::MAX_WORDS];
     let mut words = [0u32; 0];
     pack_words_u8(order, buf, total, &mut send);
-    let driven = run_words(
+    let driven = transfer(
         driver,
-        driver
-            .bus_transaction(transaction)
-            .with_receive_data_mask(true),
-        count,
+        Ways::Sends,
         frame,
         budget,
         script,
@@ -78,22 +57,8 @@ pub fn write_no_read_u16(
     ensures { λ r. ⌜ transferLeft r (now (log .exit)) []
         ≡ writeNoRead 16 driver (now (buf .entry)) budget (now (script .entry)) (now (log .entry)) ⌝ }
 {
-    if limits(budget, log) {
-        return RunResult::unmoved(driver, Ending::Limits);
-    }
     let total = buf.len();
-    if total == 0 {
-        return RunResult::unmoved(driver, Ending::Ok);
-    }
-    let TransactionResult::Ok(transaction) = Transaction::new_u16s(buf) else {
-        return RunResult::unmoved(driver, Ending::Err(LpspiError::FrameSize));
-    };
     let order = driver.bit_order();
-    let n = Width::U16.word_count(total);
-    let count = Count {
-        send: n,
-        receive: 0,
-    };
     let frame = Frame {
         width: Width::U16,
         total,
@@ -102,12 +67,9 @@ pub fn write_no_read_u16(
     let mut send = [0u32; Transaction::MAX_WORDS];
     let mut words = [0u32; 0];
     pack_words_u16(order, buf, total, &mut send);
-    let driven = run_words(
+    let driven = transfer(
         driver,
-        driver
-            .bus_transaction(transaction)
-            .with_receive_data_mask(true),
-        count,
+        Ways::Sends,
         frame,
         budget,
         script,
@@ -128,22 +90,8 @@ pub fn write_no_read_u32(
     ensures { λ r. ⌜ transferLeft r (now (log .exit)) []
         ≡ writeNoRead 32 driver (now (buf .entry)) budget (now (script .entry)) (now (log .entry)) ⌝ }
 {
-    if limits(budget, log) {
-        return RunResult::unmoved(driver, Ending::Limits);
-    }
     let total = buf.len();
-    if total == 0 {
-        return RunResult::unmoved(driver, Ending::Ok);
-    }
-    let TransactionResult::Ok(transaction) = Transaction::new_u32s(buf) else {
-        return RunResult::unmoved(driver, Ending::Err(LpspiError::FrameSize));
-    };
     let order = driver.bit_order();
-    let n = Width::U32.word_count(total);
-    let count = Count {
-        send: n,
-        receive: 0,
-    };
     let frame = Frame {
         width: Width::U32,
         total,
@@ -152,12 +100,9 @@ pub fn write_no_read_u32(
     let mut send = [0u32; Transaction::MAX_WORDS];
     let mut words = [0u32; 0];
     pack_words_u32(order, buf, total, &mut send);
-    let driven = run_words(
+    let driven = transfer(
         driver,
-        driver
-            .bus_transaction(transaction)
-            .with_receive_data_mask(true),
-        count,
+        Ways::Sends,
         frame,
         budget,
         script,

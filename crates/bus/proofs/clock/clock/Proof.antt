@@ -13,7 +13,13 @@ use Rattle.bus.proofs.clock.clock.Tie as tie
 returns : tie.Need-returns
 returns c =
     let a = c .before .before .before .before .before .before .args in
-    (c .before .before .before .before .before .before .pre .2, c .before .before .before .before .before .before .pre .3, refl, refl, clock-nothing (a .gate-exponent) (a .antenna-exponent) (a .gate) (a .antenna) (no-words (a .gate .port .transmit) (c .if1 .taken)))
+    record {
+      gate = c .before .before .before .before .before .before .pre .gate;
+      antenna = c .before .before .before .before .before .before .pre .antenna;
+      gateWords = refl;
+      antennaWords = refl;
+      same = clock-nothing (a .gate-exponent) (a .antenna-exponent) (a .gate) (a .antenna) (no-words (a .gate .port .transmit) (c .if1 .taken));
+    }
 
 without-first-requires : tie.Need-without-first-requires
 without-first-requires c κs = search needs
@@ -31,7 +37,7 @@ first-requires : tie.Need-first-requires
 first-requires c κs = search needs
 
 arrive-requires-2 : tie.Need-arrive-requires-2
-arrive-requires-2 c κs = (c .before .before .before .before .before .before .before .before .before .before .before .before .before .pre .1, c .before .before .before .raise .ensures .0)
+arrive-requires-2 c κs = (c .before .before .before .before .before .before .before .before .before .before .before .before .before .pre .antennaExponent, c .before .before .before .raise .ensures .0)
 
 with-port-requires-2 : tie.Need-with-port-requires-2
 with-port-requires-2 c κs = search needs
@@ -42,16 +48,17 @@ returns-2 c =
     let g = a .gate .port in
     let p = c .before .before .before .with-port in
     let q = c .with-port2 in
-    let ours = some-words (g .transmit) (c .before .before .before .before .before .before .before .before .before .before .before .before .before .before .before .pre .2 .transmit) (c .before .before .before .before .before .before .before .before .before .if1 .left) in (
-      subst (λ (x : Port). Roomy x) (sym (p .ensures .3)) (c .before .before .before .before .arrive .ensures .0),
-      subst (λ (x : Port). Roomy x) (sym (q .ensures .3)) (c .before .arrive2 .ensures .0),
-      p .ensures .2,
-      q .ensures .2,
-      clock-made-up (a .gate-exponent) (a .antenna-exponent) (a .gate) (a .antenna) (p .result) (q .result) (c .before .before .before .before .arrive .result) (c .before .arrive2 .result) (p .ensures) (q .ensures)
+    let ours = some-words (g .transmit) (c .before .before .before .before .before .before .before .before .before .before .before .before .before .before .before .pre .gate .transmit) (c .before .before .before .before .before .before .before .before .before .if1 .left) in
+    record {
+      gate = subst (λ (x : Port). Roomy x) (sym (p .ensures .3)) (c .before .before .before .before .arrive .ensures .0);
+      antenna = subst (λ (x : Port). Roomy x) (sym (q .ensures .3)) (c .before .arrive2 .ensures .0);
+      gateWords = p .ensures .2;
+      antennaWords = q .ensures .2;
+      same = clock-made-up (a .gate-exponent) (a .antenna-exponent) (a .gate) (a .antenna) (p .result) (q .result) (c .before .before .before .before .arrive .result) (c .before .arrive2 .result) (p .ensures) (q .ensures)
           (front (queueOf (g .transmit))) (behind (queueOf (g .transmit))) ours (no-words (a .antenna .port .transmit) (c .before .before .before .before .before .before .if2 .taken))
           (c .before .before .before .before .arrive .ensures .1 ∙ ap (arrived (a .gate-exponent) 0) (c .before .before .before .before .before .before .before .before .without-first .ensures .1))
-          (c .before .arrive2 .ensures .1 ∙ ap₂ (arrived (a .antenna-exponent)) (c .before .before .first .ensures) (c .before .before .before .before .before .raise .ensures .1)),
-    )
+          (c .before .arrive2 .ensures .1 ∙ ap₂ (arrived (a .antenna-exponent)) (c .before .before .first .ensures) (c .before .before .before .before .before .raise .ensures .1));
+    }
 
 without-first-requires-2 : tie.Need-without-first-requires-2
 without-first-requires-2 c κs = search needs
@@ -69,7 +76,7 @@ first-requires-3 : tie.Need-first-requires-3
 first-requires-3 c κs = search needs
 
 arrive-requires-4 : tie.Need-arrive-requires-4
-arrive-requires-4 c κs = (c .before .before .before .before .before .before .before .before .before .before .before .before .before .before .pre .1, c .before .before .before .before .without-first2 .ensures .0)
+arrive-requires-4 c κs = (c .before .before .before .before .before .before .before .before .before .before .before .before .before .before .pre .antennaExponent, c .before .before .before .before .without-first2 .ensures .0)
 
 with-port-requires-4 : tie.Need-with-port-requires-4
 with-port-requires-4 c κs = search needs
@@ -80,17 +87,18 @@ returns-3 c =
     let g = a .gate .port in
     let h = a .antenna .port in
     let p = c .before .before .before .with-port3 in
-    let q = c .with-port4 in (
-      subst (λ (x : Port). Roomy x) (sym (p .ensures .3)) (c .before .before .before .before .arrive3 .ensures .0),
-      subst (λ (x : Port). Roomy x) (sym (q .ensures .3)) (c .before .arrive4 .ensures .0),
-      p .ensures .2,
-      q .ensures .2,
-      clock-both (a .gate-exponent) (a .antenna-exponent) (a .gate) (a .antenna) (p .result) (q .result) (c .before .before .before .before .arrive3 .result) (c .before .arrive4 .result) (p .ensures) (q .ensures)
+    let q = c .with-port4 in
+    record {
+      gate = subst (λ (x : Port). Roomy x) (sym (p .ensures .3)) (c .before .before .before .before .arrive3 .ensures .0);
+      antenna = subst (λ (x : Port). Roomy x) (sym (q .ensures .3)) (c .before .arrive4 .ensures .0);
+      gateWords = p .ensures .2;
+      antennaWords = q .ensures .2;
+      same = clock-both (a .gate-exponent) (a .antenna-exponent) (a .gate) (a .antenna) (p .result) (q .result) (c .before .before .before .before .arrive3 .result) (c .before .arrive4 .result) (p .ensures) (q .ensures)
           (front (queueOf (g .transmit))) (front (queueOf (h .transmit))) (behind (queueOf (g .transmit))) (behind (queueOf (h .transmit)))
-          (some-words (g .transmit) (c .before .before .before .before .before .before .before .before .before .before .before .before .before .before .before .before .pre .2 .transmit) (c .before .before .before .before .before .before .before .before .before .before .if1 .left)) (some-words (h .transmit) (c .before .before .before .before .before .before .before .before .before .before .before .before .before .before .before .before .pre .3 .transmit) (c .before .before .before .before .before .before .before .if2 .left))
+          (some-words (g .transmit) (c .before .before .before .before .before .before .before .before .before .before .before .before .before .before .before .before .pre .gate .transmit) (c .before .before .before .before .before .before .before .before .before .before .if1 .left)) (some-words (h .transmit) (c .before .before .before .before .before .before .before .before .before .before .before .before .before .before .before .before .pre .antenna .transmit) (c .before .before .before .before .before .before .before .if2 .left))
           (c .before .before .before .before .arrive3 .ensures .1 ∙ ap₂ (arrived (a .gate-exponent)) (c .before .before .before .before .before .first2 .ensures) (c .before .before .before .before .before .before .before .before .before .without-first .ensures .1))
-          (c .before .arrive4 .ensures .1 ∙ ap₂ (arrived (a .antenna-exponent)) (c .before .before .first3 .ensures) (c .before .before .before .before .before .before .without-first2 .ensures .1)),
-    )
+          (c .before .arrive4 .ensures .1 ∙ ap₂ (arrived (a .antenna-exponent)) (c .before .before .first3 .ensures) (c .before .before .before .before .before .before .without-first2 .ensures .1));
+    }
 
 pub clock-spec : {M : Type 1} → statement M
 clock-spec =

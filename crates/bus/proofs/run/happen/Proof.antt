@@ -55,11 +55,16 @@ returns : tie.Need-returns
 returns c =
     let a = c .before .before .before .before .before .before .before .before .before .before .before .before .before .before .before .before .args in
     let e = c .before .before .before .before .before .before .before .before .event .given in
-    let s = c .before .before .step in (
-      s .ensures .0,
-      c .before .before .before .before .before .before .before .before .before .before .before .before .before .before .before .before .pre .3,
-      s .ensures .1,
-      c .before .before .before .before .before .before .before .before .before .before .before .before .before .before .before .before .pre .5,
+    let s = c .before .before .step in
+    let pre = c .before .before .before .before .before .before .before .before .before .before .before .before .before .before .before .before .pre in (
+      record {
+        gateExponent = pre .gateExponent;
+        antennaExponent = pre .antennaExponent;
+        gate = s .ensures .0;
+        antenna = pre .antenna;
+        gateWords = s .ensures .1;
+        antennaWords = pre .antennaWords;
+      },
       λ hg ha. gate-step-is (linkJob (a .gate-link) (a .gate-send .now)) (linkJob (a .antenna-link) (a .antenna-send .now)) (endOf (a .stations .gate) (a .gate-words .now) (a .gate-registers .now)) (endOf (a .stations .antenna) (a .antenna-words .now) (a .antenna-registers .now)) (a .event)
           (e .0 .1 .0) (endOf (s .result) (s .last .1 .1 .1 .1 .0) (s .last .1 .1 .1 .1 .1 .0)) (e .1 ∙ ap (λ (z : Side). Step z (e .0 .1 .0)) (c .before .before .before .before .before .enum-told .given .1)) (s .ensures .2 hg),
     )
@@ -71,11 +76,16 @@ returns-2 : tie.Need-returns-2
 returns-2 c =
     let a = c .before .before .before .before .before .before .before .before .before .before .before .before .before .before .before .before .args in
     let e = c .before .before .before .before .before .before .before .before .event .given in
-    let s = c .before .before .step2 in (
-      c .before .before .before .before .before .before .before .before .before .before .before .before .before .before .before .before .pre .2,
-      s .ensures .0,
-      c .before .before .before .before .before .before .before .before .before .before .before .before .before .before .before .before .pre .4,
-      s .ensures .1,
+    let s = c .before .before .step2 in
+    let pre = c .before .before .before .before .before .before .before .before .before .before .before .before .before .before .before .before .pre in (
+      record {
+        gateExponent = pre .gateExponent;
+        antennaExponent = pre .antennaExponent;
+        gate = pre .gate;
+        antenna = s .ensures .0;
+        gateWords = pre .gateWords;
+        antennaWords = s .ensures .1;
+      },
       λ hg ha. antenna-step-is (linkJob (a .gate-link) (a .gate-send .now)) (linkJob (a .antenna-link) (a .antenna-send .now)) (endOf (a .stations .gate) (a .gate-words .now) (a .gate-registers .now)) (endOf (a .stations .antenna) (a .antenna-words .now) (a .antenna-registers .now)) (a .event)
           (e .0 .1 .0) (endOf (s .result) (s .last .1 .1 .1 .1 .0) (s .last .1 .1 .1 .1 .1 .0)) (e .1 ∙ ap (λ (z : Side). Step z (e .0 .1 .0)) (c .before .before .before .before .before .enum-told2 .given .1)) (s .ensures .2 ha),
     )
@@ -83,14 +93,19 @@ returns-2 c =
 returns-3 : tie.Need-returns-3
 returns-3 c =
     let a = c .before .before .before .before .before .before .before .before .before .args in
-    let k = c .clock in (
-      k .ensures .0,
-      k .ensures .1,
-      subst (λ (m : ℕ). m ≤ length (a .gate-words .now)) (sym (k .ensures .2)) (c .before .before .before .before .before .before .before .before .before .pre .4),
-      subst (λ (m : ℕ). m ≤ length (a .antenna-words .now)) (sym (k .ensures .3)) (c .before .before .before .before .before .before .before .before .before .pre .5),
+    let k = c .clock in
+    let pre = c .before .before .before .before .before .before .before .before .before .pre in (
+      record {
+        gateExponent = pre .gateExponent;
+        antennaExponent = pre .antennaExponent;
+        gate = k .ensures .gate;
+        antenna = k .ensures .antenna;
+        gateWords = subst (λ (m : ℕ). m ≤ length (a .gate-words .now)) (sym (k .ensures .gateWords)) (pre .gateWords);
+        antennaWords = subst (λ (m : ℕ). m ≤ length (a .antenna-words .now)) (sym (k .ensures .antennaWords)) (pre .antennaWords);
+      },
       λ hg ha. clock-is (linkJob (a .gate-link) (a .gate-send .now)) (linkJob (a .antenna-link) (a .antenna-send .now)) (endOf (a .stations .gate) (a .gate-words .now) (a .gate-registers .now)) (endOf (a .stations .antenna) (a .antenna-words .now) (a .antenna-registers .now)) (a .event)
           (pair (endOf (k .result .gate) (a .gate-words .now) (a .gate-registers .now)) (endOf (k .result .antenna) (a .antenna-words .now) (a .antenna-registers .now))) (c .before .enum-told3 .given .1)
-          (k .ensures .4 (a .gate-words .now) (a .gate-registers .now) (a .antenna-words .now) (a .antenna-registers .now) (linkJob (a .gate-link) (a .gate-send .now)) (linkJob (a .antenna-link) (a .antenna-send .now)) refl refl),
+          (k .ensures .same (a .gate-words .now) (a .gate-registers .now) (a .antenna-words .now) (a .antenna-registers .now) (linkJob (a .gate-link) (a .gate-send .now)) (linkJob (a .antenna-link) (a .antenna-send .now)) refl refl),
     )
 
 returns-4 : tie.Need-returns-4
@@ -98,11 +113,16 @@ returns-4 c =
     let a = c .before .before .before .before .before .before .before .before .before .before .before .before .args in
     let e = c .before .before .before .before .event2 .given in
     let s = c .noise in
-    let within = subst (λ (m : ℕ). m ≤ length (a .gate-words .now)) (sym (s .ensures .1)) (c .before .before .before .before .before .before .before .before .before .before .before .before .pre .4) in (
-      s .ensures .0,
-      c .before .before .before .before .before .before .before .before .before .before .before .before .pre .3,
-      within,
-      c .before .before .before .before .before .before .before .before .before .before .before .before .pre .5,
+    let pre = c .before .before .before .before .before .before .before .before .before .before .before .before .pre in
+    let within = subst (λ (m : ℕ). m ≤ length (a .gate-words .now)) (sym (s .ensures .1)) (pre .gateWords) in (
+      record {
+        gateExponent = pre .gateExponent;
+        antennaExponent = pre .antennaExponent;
+        gate = s .ensures .0;
+        antenna = pre .antenna;
+        gateWords = within;
+        antennaWords = pre .antennaWords;
+      },
       λ hg ha. gate-noise-is (linkJob (a .gate-link) (a .gate-send .now)) (linkJob (a .antenna-link) (a .antenna-send .now)) (endOf (a .stations .gate) (a .gate-words .now) (a .gate-registers .now)) (endOf (a .stations .antenna) (a .antenna-words .now) (a .antenna-registers .now)) (a .event)
           (e .0 .1 .0) (endOf (s .result) (a .gate-words .now) (a .gate-registers .now)) (e .1 ∙ ap (λ (z : Side). Noise z (e .0 .1 .0)) (c .before .enum-told4 .given .1)) (s .ensures .2 (a .gate-words .now) (a .gate-registers .now)),
     )
@@ -112,11 +132,16 @@ returns-5 c =
     let a = c .before .before .before .before .before .before .before .before .before .before .before .before .args in
     let e = c .before .before .before .before .event2 .given in
     let s = c .noise2 in
-    let within = subst (λ (m : ℕ). m ≤ length (a .antenna-words .now)) (sym (s .ensures .1)) (c .before .before .before .before .before .before .before .before .before .before .before .before .pre .5) in (
-      c .before .before .before .before .before .before .before .before .before .before .before .before .pre .2,
-      s .ensures .0,
-      c .before .before .before .before .before .before .before .before .before .before .before .before .pre .4,
-      within,
+    let pre = c .before .before .before .before .before .before .before .before .before .before .before .before .pre in
+    let within = subst (λ (m : ℕ). m ≤ length (a .antenna-words .now)) (sym (s .ensures .1)) (pre .antennaWords) in (
+      record {
+        gateExponent = pre .gateExponent;
+        antennaExponent = pre .antennaExponent;
+        gate = pre .gate;
+        antenna = s .ensures .0;
+        gateWords = pre .gateWords;
+        antennaWords = within;
+      },
       λ hg ha. antenna-noise-is (linkJob (a .gate-link) (a .gate-send .now)) (linkJob (a .antenna-link) (a .antenna-send .now)) (endOf (a .stations .gate) (a .gate-words .now) (a .gate-registers .now)) (endOf (a .stations .antenna) (a .antenna-words .now) (a .antenna-registers .now)) (a .event)
           (e .0 .1 .0) (endOf (s .result) (a .antenna-words .now) (a .antenna-registers .now)) (e .1 ∙ ap (λ (z : Side). Noise z (e .0 .1 .0)) (c .before .enum-told5 .given .1)) (s .ensures .2 (a .antenna-words .now) (a .antenna-registers .now)),
     )

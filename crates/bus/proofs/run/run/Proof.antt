@@ -1,7 +1,7 @@
 -- `run` meets its contract.
 -- Assumes nothing.
 use Prim.Native.Nat.{_-_, _≤_}
-use mathlib.Core.Path.{_≡_, refl, ap, _∙_}
+use mathlib.Core.Path.{_≡_, refl, sym, ap, _∙_}
 use native.Mathlib.Omega.{arith}
 use lib.ListN.{length, take}
 use lib.Seq.{take-all}
@@ -9,9 +9,9 @@ use mathlib.Core.List.{List}
 use Prim.Native.Nat.{ℕ}
 use Rattle.agreement.specs.Start.{Start}
 use Rattle.agreement.specs.Codes.{eventsOf}
-use Rattle.agreement.specs.Events.{pair, after, freshPair, pairAfter}
-use Rattle.bus.specs.Held.{Roomy, endOf, Linked}
-use Rattle.bus.proofs.RunLaws.{one-more, relinked}
+use Rattle.agreement.specs.Events.{after, freshPair, pairAfter}
+use Rattle.bus.specs.Held.{Linked, Room, pairOf}
+use Rattle.bus.proofs.RunLaws.{one-more, relinked, resized}
 use borrow.Author.Needs.{needs}
 use Rattle.bus.proofs.run.run.Statement.{statement}
 use Rattle.bus.proofs.run.run.Tie as tie
@@ -21,20 +21,17 @@ Inv-loop events gate-link antenna-link gate-send antenna-send gate-words₀ ante
     (i ≤ i-end)
     × (length gate-words ≡ length gate-words₀)
     × (length antenna-words ≡ length antenna-words₀)
-    × Roomy (ends .gate .port)
-    × Roomy (ends .antenna .port)
-    × (ends .gate .received ≤ length gate-words)
-    × (ends .antenna .received ≤ length antenna-words)
+    × Room gate-link antenna-link ends (length gate-words) (length antenna-words)
     × ((g a : Start) → Linked g a gate-link antenna-link gate-send antenna-send (length gate-words₀) (length antenna-words₀)
-    → pair (endOf (ends₀ .gate) gate-words₀ gate-registers₀) (endOf (ends₀ .antenna) antenna-words₀ antenna-registers₀) ≡ freshPair g a
-    → pair (endOf (ends .gate) gate-words gate-registers) (endOf (ends .antenna) antenna-words antenna-registers) ≡ pairAfter g a (eventsOf (take i events)))
+    → pairOf ends₀ gate-words₀ gate-registers₀ antenna-words₀ antenna-registers₀ ≡ freshPair g a
+    → pairOf ends gate-words gate-registers antenna-words antenna-registers ≡ pairAfter g a (eventsOf (take i events)))
 
 abbrev μ-loop : tie.MeasureT-loop
 μ-loop events gate-link antenna-link gate-send antenna-send gate-words₀ antenna-words₀ gate-registers₀ antenna-registers₀ ends₀ i₀ i-end gate-words antenna-words gate-registers antenna-registers ends i = i-end - i
 
 loop-holds : tie.Need-loop-holds Inv-loop μ-loop
 unfolding after
-loop-holds c = let p = c .before .before .before .before .before .pre in (omega arith, refl, refl, p .2, p .3, p .4, p .5, λ g a l e. e)
+loop-holds c = (omega arith, refl, refl, c .before .before .before .before .before .pre, λ g a l e. e)
 
 shared-slice-read-event-of : tie.Need-shared-slice-read-event-of Inv-loop μ-loop
 shared-slice-read-event-of c = search needs
@@ -59,14 +56,11 @@ loop-again c =
       omega (arith, c .before .before .before .before .before .before .before .before .before .before .before .loop-test .taken),
       h .kept .1 .1 .1 .1 .1 .1 .0 ∙ l .inv .1,
       h .kept .1 .1 .1 .1 .1 .1 .1 .0 ∙ l .inv .2,
-      h .ensures .0,
-      h .ensures .1,
-      omega (arith, h .ensures .2, h .kept .1 .1 .1 .1 .1 .1 .0),
-      omega (arith, h .ensures .3, h .kept .1 .1 .1 .1 .1 .1 .1 .0),
+      resized (h .kept .1 .1 .1 .1 .1 .1 .0) (h .kept .1 .1 .1 .1 .1 .1 .1 .0) (h .ensures .0),
       λ g b k e. one-more g b (a .gate-link) (a .antenna-link) (a .gate-send .now) (a .antenna-send .now) (l .ends .gate) (l .ends .antenna) (l .gate-words) (l .antenna-words) (l .gate-registers) (l .antenna-registers)
-          (relinked g b (a .gate-link) (a .antenna-link) (a .gate-send .now) (a .antenna-send .now) (l .inv .1) (l .inv .2) k) (l .inv .5) (l .inv .6) (a .events .now) (l .i) (c .before .before .before .before .before .before .before .before .before .before .before .loop-test .taken) (l .inv .7 g b k e)
+          (relinked g b (a .gate-link) (a .antenna-link) (a .gate-send .now) (a .antenna-send .now) (l .inv .1) (l .inv .2) k) (l .inv .3 .gateWords) (l .inv .3 .antennaWords) (a .events .now) (l .i) (c .before .before .before .before .before .before .before .before .before .before .before .loop-test .taken) (l .inv .4 g b k e)
           (c .before .before .before .before .before .before .before .before .before .event-of .result) (c .before .before .before .before .before .before .before .before .before .event-of .ensures)
-          (pair (endOf (h .result .gate) (h .last .1 .1 .1 .1 .1 .1 .0) (h .last .1 .1 .1 .1 .1 .1 .1 .1 .0)) (endOf (h .result .antenna) (h .last .1 .1 .1 .1 .1 .1 .1 .0) (h .last .1 .1 .1 .1 .1 .1 .1 .1 .1 .0))) (h .ensures .4),
+          (pairOf (h .result) (h .last .1 .1 .1 .1 .1 .1 .0) (h .last .1 .1 .1 .1 .1 .1 .1 .1 .0) (h .last .1 .1 .1 .1 .1 .1 .1 .0) (h .last .1 .1 .1 .1 .1 .1 .1 .1 .1 .0)) (h .ensures .1),
     )
 
 same-length : tie.Need-same-length Inv-loop μ-loop
@@ -79,11 +73,8 @@ returns : tie.Need-returns Inv-loop μ-loop
 returns c =
     let l = c .before .loop in
     let a = c .before .before .before .before .before .before .before .args in (
-      l .inv .3,
-      l .inv .4,
-      omega (arith, l .inv .5, l .inv .1),
-      omega (arith, l .inv .6, l .inv .2),
-      λ g b k e. l .inv .7 g b k e ∙ ap (λ (vs : List ℕ). pairAfter g b (eventsOf vs)) (take-all (l .i) (a .events .now) (c .loop-test .left)),
+      resized (sym (l .inv .1)) (sym (l .inv .2)) (l .inv .3),
+      λ g b k e. l .inv .4 g b k e ∙ ap (λ (vs : List ℕ). pairAfter g b (eventsOf vs)) (take-all (l .i) (a .events .now) (c .loop-test .left)),
     )
 
 pub run-spec : {M : Type 1} → statement M

@@ -86,10 +86,10 @@ loop-again c =
     let st = c .before .before .before .before .before .keep in (
       omega (arith, room),
       omega (arith, uses-one access, c .before .before .uses-of .ensures, l .inv .1),
-      rw (st .ensures .0, st .kept .1 .0) (got-fit access (l .received) (length (l .words)) (l .inv .2)),
+      rw (st .ensures .0, st .kept .1 .0) (got-fit access (l .received) (length (l .received-words)) (l .inv .2)),
       c .before .before .before .before .before .before .before .before .before .put .kept .0 ∙ l .inv .3,
       st .kept .1 .0 ∙ l .inv .4,
-      λ m old olds h. stands-next (a .frame) (a .script .now) (a .send .now) old olds m (l .t) (record { made = l .made; used = l .used; received = l .received }) (l .log) (l .words) (l .inv .5 m old olds h)
+      λ m old olds h. stands-next (a .frame) (a .script .now) (a .sent-words .now) old olds m (l .t) (record { made = l .made; used = l .used; received = l .received }) (l .log) (l .received-words) (l .inv .5 m old olds h)
           access (c .before .before .before .before .before .before .before .before .before .before .before .before .before .before .answer .result) (sym (c .before .before .before .before .before .before .before .before .before .before .before .before .before .before .before .before .before .before .next .ensures)) goes (c .before .before .before .before .before .before .before .before .before .before .before .before .before .before .answer .ensures)
           (c .answered .result) (record { made = l .made + 1; used = l .used + c .before .before .uses-of .result; received = st .result }) (c .before .before .before .before .before .before .before .before .before .put .last .0) (st .last .1 .0)
           (let wide : 2 * a .budget ≤ length (a .log .now) = c .before .before .before .before .before .before .before .before .before .before .before .before .before .before .before .before .before .before .before .before .before .before .before .before .pre .0 in omega (arith, l .inv .5 m old olds h .size, l .inv .3, room, wide))
@@ -107,7 +107,7 @@ returns c =
     λ m old olds h.
     let l = c .before .before .before .loop in
     let a = c .before .before .before .before .before .before .before .before .args in
-    stands-full (a .frame) (a .script .now) (a .send .now) old olds m (l .t) (record { made = l .made; used = l .used; received = l .received }) (l .log) (l .words) (l .inv .5 m old olds h)
+    stands-full (a .frame) (a .script .now) (a .sent-words .now) old olds m (l .t) (record { made = l .made; used = l .used; received = l .received }) (l .log) (l .received-words) (l .inv .5 m old olds h)
     (a .budget) (c .ending-of .result) (l .inv .0) (c .before .if1 .taken) (c .ending-of .ensures ∙ ap endingOf (c .before .before .next .ensures))
 
 same-length-3 : tie.Need-same-length-3 Inv-loop μ-loop
@@ -122,7 +122,7 @@ returns-2 c =
     let l = c .before .before .before .before .before .loop in
     let a = c .before .before .before .before .before .before .before .before .before .before .args in
     let n = c .before .before .before .before .next .ensures in
-    stands-halted (a .frame) (a .script .now) (a .send .now) old olds m (l .t) (record { made = l .made; used = l .used; received = l .received }) (l .log) (l .words) (l .inv .5 m old olds h)
+    stands-halted (a .frame) (a .script .now) (a .sent-words .now) old olds m (l .t) (record { made = l .made; used = l .used; received = l .received }) (l .log) (l .received-words) (l .inv .5 m old olds h)
     (a .budget) (c .ending-of2 .result) (l .inv .0) (ap (λ (x : Access). halted x (l .used) (length (a .script .now))) (sym n) ∙ sym (c .before .before .halted .ensures) ∙ c .before .if2 .taken) (c .ending-of2 .ensures ∙ ap endingOf n)
 
 pub drive-spec : {M : Type 1} → statement M

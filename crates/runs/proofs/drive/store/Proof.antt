@@ -7,11 +7,11 @@ use borrow.Author.Needs.{needs}
 use Rattle.runs.proofs.drive.store.Statement.{statement}
 use Rattle.runs.proofs.drive.store.Tie as tie
 
-mul-words : tie.Need-mul-words
-mul-words c = search needs
+mul-received-words : tie.Need-mul-received-words
+mul-received-words c = search needs
 
-slice-write-words : tie.Need-slice-write-words
-slice-write-words c = search needs
+slice-write-received-words : tie.Need-slice-write-received-words
+slice-write-received-words c = search needs
 
 add-result : tie.Need-add-result
 add-result c = search needs
@@ -27,4 +27,4 @@ returns-2 c = (simp (le-ltb _ _ (c .if1 .left)), sym (set-out _ _ _ (c .if1 .lef
 
 pub store-spec : {M : Type 1} → statement M
 store-spec =
-    tie.close (tie.spec mul-words slice-write-words add-result same-length returns returns-2)
+    tie.close (tie.spec mul-received-words slice-write-received-words add-result same-length returns returns-2)

@@ -1,90 +1,34 @@
--- `exchange_u16` meets its contract: number 5, empty, FrameSize, or the run.
+-- `exchange_u16` meets its contract: packed, run over FIFO words, unpacked.
 -- Assumes nothing.
-use mathlib.Core.Path.{refl}
-use lib.ListN.{length}
 use Rattle.words.specs.declared.width.Width.the-variants.{U16}
-use Rattle.words.specs.Width.{widthBits}
-use Rattle.transfers.specs.Transfers.{inPlacePlan}
 use Rattle.runs.proofs.DriveLaws.{words-stored, words-length}
-use Rattle.transfers.proofs.EntryLaws.{ends-limits, ends-empty, ends-refused, in-place-left}
+use Rattle.transfers.proofs.EntryLaws.{in-place-left}
 use borrow.Author.Needs.{needs}
 use Rattle.transfers.proofs.exchange.exchange_u16.Statement.{statement}
 use Rattle.transfers.proofs.exchange.exchange_u16.Tie as tie
 
-returns : tie.Need-returns
-returns c =
-    let free = c .before in
-    let full = free .before in
-    let a = full .before .before .before .before .before .args in
-    ends-limits U16 (a .driver) (inPlacePlan (widthBits U16) (a .driver) (a .buf .now)) (a .buf .now) (a .budget) (a .script .now) (a .log .now) (full .limits .ensures) (free .if1 .taken) (c .unmoved .ensures)
-
-returns-2 : tie.Need-returns-2
-returns-2 c =
-    let some = c .before in
-    let free = some .before in
-    let full = free .before in
-    let a = full .before .before .before .before .before .args in
-    ends-empty U16 (a .driver) (inPlacePlan (widthBits U16) (a .driver) (a .buf .now)) (a .buf .now) (a .budget) (a .script .now) (a .log .now) (full .limits .ensures)
-    (length (a .buf .now)) (free .if1 .left) refl (some .if2 .taken) (c .unmoved2 .ensures)
-
-returns-3 : tie.Need-returns-3
-returns-3 c =
-    let told = c .before in
-    let new = told .before .before in
-    let some = new .before .before in
-    let free = some .before in
-    let full = free .before in
-    let a = full .before .before .before .before .before .args in
-    ends-refused U16 (a .driver) (inPlacePlan (widthBits U16) (a .driver) (a .buf .now)) (a .buf .now) (a .budget) (a .script .now) (a .log .now) (full .limits .ensures)
-    (length (a .buf .now)) (free .if1 .left) refl (some .if2 .left) (told .enum-told .given .0 .0) (told .enum-told .given .1) (new .new-u16s .ensures) (c .unmoved3 .ensures)
-
 array-share-prefix-words : tie.Need-array-share-prefix-words
-array-share-prefix-words c = words-stored _ _ _ _ _ _ _ _ _ (c .before .before .before .before .run-words .ensures)
+array-share-prefix-words c = words-stored _ _ _ _ _ _ _ (c .before .before .before .before .transfer .ensures)
 
 slice-aggregate-unpack-words-u16 : tie.Need-slice-aggregate-unpack-words-u16
-slice-aggregate-unpack-words-u16 c = words-length _ _ _ _ _ _ _ _ _ (c .before .before .before .before .before .run-words .ensures)
+slice-aggregate-unpack-words-u16 c = words-length _ _ _ _ _ _ _ (c .before .before .before .before .before .transfer .ensures)
 
-returns-4 : tie.Need-returns-4
-returns-4 c =
+returns : tie.Need-returns
+returns c =
     let unpack = c .before .before .before in
     let run = unpack .before .before .before .before .before .before .before in
-    let bus = run .before .before .before .before in
-    let pack = bus .before .before in
-    let count = pack .before .before .before in
-    let order = count .before in
-    let made = order .before .before in
-    let new = made .before .before in
-    let some = new .before .before in
-    let free = some .before in
-    let full = free .before in
-    let a = full .before .before .before .before .before .args in
-    in-place-left U16 (length (a .buf .now)) (made .transaction .given .0 .0) (made .transaction .given .1) (new .new-u16s .ensures)
-    (a .driver) (a .budget) (a .script .now) (a .log .now) (full .limits .ensures) (free .if1 .left) (some .if2 .left) (order .bit-order .ensures) (count .word-count .ensures)
-    (c .result .ensures) (a .buf .now) refl
-    (pack .pack-words-u16 .last .1 .1 .1 .0) (pack .pack-words-u16 .ensures) (bus .bus-transaction .ensures) (run .run-words .ensures) (unpack .unpack-words-u16 .ensures)
+    let pack = run .before .before .before .before .before in
+    let order = pack .before .before .before in
+    let a = order .before .before .before .before .args in
+    in-place-left U16 (a .driver) (a .budget) (a .script .now) (a .log .now) (c .result .ensures) (order .bit-order .ensures) (a .buf .now)
+    (pack .pack-words-u16 .last .1 .1 .1 .0) (pack .pack-words-u16 .ensures) (run .transfer .ensures) (unpack .unpack-words-u16 .ensures)
 
 pub exchange-u16-spec : {M : Type 1} → statement M
 exchange-u16-spec =
     tie.close
     (tie.spec
     (λ c κs. search needs)
-    (λ c κs. search needs)
     (λ c. search needs)
-    returns
-    (λ c κs. search needs)
-    (λ c. search needs)
-    returns-2
-    (λ c κs. search needs)
-    (λ c. search needs)
-    (λ c. search needs)
-    (λ c κs. search needs)
-    (λ c. search needs)
-    (λ c. search needs)
-    returns-3
-    (λ c κs. search needs)
-    (λ c κs. search needs)
-    (λ c. search needs)
-    (λ c κs. search needs)
     (λ c κs. search needs)
     (λ c. search needs)
     (λ c. search needs)
@@ -95,4 +39,4 @@ exchange-u16-spec =
     (λ c κs. search needs)
     (λ c. search needs)
     (λ c. search needs)
-    returns-4)
+    returns)

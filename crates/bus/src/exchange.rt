@@ -1,0 +1,72 @@
+// Two boards over FIFO words, whatever their elements: number 9, or the events from fresh.
+ghost use mathlib.Core.Path.{_≡_};
+ghost use lib.ListN.{length};
+ghost use Rattle.words.specs.Width.{widthBits};
+ghost use Rattle.bus.specs.Held.{Exchanged};
+use crate::begin::Entrant;
+use crate::begin::fresh;
+use crate::begin::fresh_registers;
+use crate::begin::is_refused;
+use crate::begin::link;
+use crate::clock::Stations;
+use crate::run::run;
+use crate::trial::EndState;
+use crate::trial::Outcome;
+use words::width::Width;
+
+fn left(number: u32, ends: Stations, gate: [u32; 30], antenna: [u32; 30]) -> Outcome
+    ensures { λ r. ⌜ r ≡ record { number = number; gate = record { station = ends .gate; registers = gate }; antenna = record { station = ends .antenna; registers = antenna } } ⌝ }
+{
+    let g = ends.gate;
+    let a = ends.antenna;
+    Outcome {
+        number,
+        gate: EndState {
+            station: g,
+            registers: gate,
+        },
+        antenna: EndState {
+            station: a,
+            registers: antenna,
+        },
+    }
+}
+
+// `gate_sent` and `antenna_sent` have the words packed at the start, the other two the places for those received.
+pub(crate) fn exchange(
+    width: Width,
+    gate: Entrant,
+    antenna: Entrant,
+    gate_sent: &[u32],
+    antenna_sent: &[u32],
+    gate_received: &mut [u32],
+    antenna_received: &mut [u32],
+    events: &[u8],
+) -> Outcome
+    requires { ⌜ (length (now «gate_received») ≡ 128) × (length (now «antenna_received») ≡ 128) ⌝ }
+    ensures { λ r. ⌜ Exchanged (widthBits width) gate antenna (now («gate_sent» .entry)) (now («antenna_sent» .entry))
+        (now (events .entry)) r (now («gate_received» .exit)) (now («antenna_received» .exit)) ⌝ }
+{
+    let stations = Stations {
+        gate: fresh(gate),
+        antenna: fresh(antenna),
+    };
+    let mut gate_registers = fresh_registers();
+    let mut antenna_registers = fresh_registers();
+    if is_refused(width, gate, antenna) {
+        return left(9, stations, gate_registers, antenna_registers);
+    }
+    let ends = run(
+        events,
+        stations,
+        link(gate),
+        link(antenna),
+        gate_sent,
+        antenna_sent,
+        gate_received,
+        antenna_received,
+        &mut gate_registers,
+        &mut antenna_registers,
+    );
+    left(0, ends, gate_registers, antenna_registers)
+}
