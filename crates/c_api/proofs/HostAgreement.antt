@@ -2,7 +2,7 @@
 -- `Agreement`; and what a host may conclude from the words of the states alone.
 -- Assumes nothing.
 use Prim.Native.Nat.{ℕ, _+_, _/_, _<_, _≤_}
-use mathlib.Core.Bool.{Bool, true, false, cond}
+use mathlib.Core.Bool.{Bool, true, false, cond, _||_}
 use mathlib.Core.List.{List, _++_}
 use mathlib.Core.Path.{_≡_, refl, sym, ap, ap₂, _∙_, subst}
 use native.Mathlib.Omega.{arith}
@@ -14,20 +14,20 @@ use Rattle.words.specs.Width.{widthBits}
 use Rattle.words.proofs.LaidLaws.{laid-at}
 use Rattle.words.proofs.WordLaws.{Elements}
 use Rattle.agreement.specs.declared.board.Board.{Board}
-use Rattle.agreement.specs.Start.{Start, unfit}
-use Rattle.agreement.specs.Events.{pairAfter}
-use Rattle.agreement.specs.Agreement.{Seen, OkTwice, bufferOf, Holds, Agreement}
+use Rattle.agreement.specs.Start.{Start, unequal, unfit}
+use Rattle.agreement.specs.Agreement.{Seen, OkTwice, Holds, Agreement}
 use Rattle.agreement.specs.Codes.{eventsOf}
 use Rattle.agreement.proofs.Demand3.{agreement}
-use Rattle.bus.specs.Trial.{Slices, pick, placed, startOf, TrialLeft, trialOf}
-use Rattle.c_api.specs.HostBus.{boardOf, lent, stateWords, stateLeft, HostTrial, trialBy}
+use Rattle.bus.specs.Trial.{startOf, refused, TrialLeft, trialOf}
+use Rattle.c_api.specs.HostBus.{boardOf, stateWords, stateLeft, HostTrial, trialBy}
 use Rattle.c_api.proofs.AnswerLaws.{ok-of-numbers}
 use Rattle.c_api.proofs.PairLaws.{length-state}
 
-picked : (w : Width) (xs : List ℕ) (s : Slices) → pick w (placed w xs s) ≡ xs
-picked U8 xs s = refl
-picked U16 xs s = refl
-picked U32 xs s = refl
+-- boards of one width that are not refused fit
+fits-at : (w : Width) (b : Bool) → (unequal (widthBits w) (widthBits w) || b) ≡ false → b ≡ false
+fits-at U8 b h = h
+fits-at U16 b h = h
+fits-at U32 b h = h
 
 fits-by : (b : Bool) (x y : TrialLeft) → x .number ≡ 9 → cond b x y .number ≡ 0 → b ≡ false
 fits-by true x y e h = absurd (omega (arith, e, h))
@@ -36,33 +36,32 @@ fits-by false x y e h = refl
 module _ (w : Width) (gateDriver antennaDriver inplace gateExponent antennaExponent : ℕ)
     (gateRead gateWrite antennaRead antennaWrite events state : List ℕ) where
   abbrev pub gateStart : Start
-  gateStart = startOf (boardOf w gateDriver inplace gateExponent) (lent w gateRead) (lent w gateWrite)
+  gateStart = startOf (boardOf w gateDriver inplace gateExponent) gateRead gateWrite
 
   abbrev pub antennaStart : Start
-  antennaStart = startOf (boardOf w antennaDriver (inplace / 2) antennaExponent) (lent w antennaRead) (lent w antennaWrite)
+  antennaStart = startOf (boardOf w antennaDriver (inplace / 2) antennaExponent) antennaRead antennaWrite
 
   abbrev pub left : HostTrial
   left = trialBy w gateDriver antennaDriver inplace gateExponent antennaExponent gateRead gateWrite antennaRead antennaWrite events state
 
   abbrev pub outcome : TrialLeft
   outcome =
-      trialOf (boardOf w gateDriver inplace gateExponent) (boardOf w antennaDriver (inplace / 2) antennaExponent) (lent w gateRead) (lent w gateWrite) (lent w antennaRead)
-      (lent w antennaWrite) events
+      trialOf (widthBits w) (boardOf w gateDriver inplace gateExponent) (boardOf w antennaDriver (inplace / 2) antennaExponent)
+      gateRead gateWrite antennaRead antennaWrite events
 
   small : (p : Bool) (reads writes : List ℕ) → Elements (widthBits w) reads → Elements (widthBits w) writes
-      → Elements (widthBits w) (cond p (pick w (lent w reads)) (pick w (lent w writes)))
-  small true reads writes r s = subst (λ (xs : List ℕ). Elements (widthBits w) xs) (sym (picked w reads _)) r
-  small false reads writes r s = subst (λ (xs : List ℕ). Elements (widthBits w) xs) (sym (picked w writes _)) s
+      → Elements (widthBits w) (cond p reads writes)
+  small true reads writes r s = r
+  small false reads writes r s = s
 
   -- DEMAND 3, over the read buffers that the host lent
   pub host-agreement : Elements (widthBits w) gateRead → Elements (widthBits w) gateWrite → Elements (widthBits w) antennaRead
       → Elements (widthBits w) antennaWrite → left .number ≡ 0
       → Agreement gateStart antennaStart (eventsOf events) (outcome .gate) (outcome .antenna) (left .gateRead) (left .antennaRead)
   host-agreement gr gw ar aw zero-number =
-      let fits : unfit gateStart antennaStart ≡ false = fits-by (unfit gateStart antennaStart) _ _ refl zero-number in
-      let after = pairAfter gateStart antennaStart (eventsOf events) in
-      rw (fits, picked w (bufferOf gateStart (after .gate)) (lent w gateRead), picked w (bufferOf antennaStart (after .antenna)) (lent w antennaRead))
-      (agreement gateStart antennaStart fits (small (gateStart .board .inplace) gateRead gateWrite gr gw)
+      let taken : refused (widthBits w) gateStart antennaStart ≡ false = fits-by (refused (widthBits w) gateStart antennaStart) _ _ refl zero-number in
+      rw taken
+      (agreement gateStart antennaStart (fits-at w (unfit gateStart antennaStart) taken) (small (gateStart .board .inplace) gateRead gateWrite gr gw)
       (small (antennaStart .board .inplace) antennaRead antennaWrite ar aw) (eventsOf events))
 
   -- THE STATES: where the number is 0 and 136 words were lent, word i of the gate's 68 and of the antenna's

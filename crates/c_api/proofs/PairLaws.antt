@@ -8,14 +8,15 @@ use lib.ListN.{length, getD, length-append, List·getD-append}
 use lib.Seq.{getD-append-add}
 use Rattle.words.specs.declared.width.Width.{Width}
 use Rattle.words.specs.Buffer.{filled, tabulate}
+use Rattle.words.specs.Width.{widthBits}
 use Rattle.words.specs.Word.{laid}
 use Rattle.words.proofs.BufferLaws.{length-filled, store-stop}
 use Rattle.agreement.specs.declared.board.Board.{Board}
 use Rattle.agreement.specs.Agreement.{Seen}
 use Rattle.bus.specs.declared.trial.Outcome.{Outcome}
-use Rattle.bus.specs.Trial.{Slices, pick, TrialLeft, trialLeft, trialOf}
+use Rattle.bus.specs.Trial.{TrialLeft, trialOf, Tried}
 use Rattle.bus.specs.View.{stateOf}
-use Rattle.c_api.specs.HostBus.{headWords, stateWords, stateLeft, boardOf, lent, hostTrial, ofTrial, trialBy}
+use Rattle.c_api.specs.HostBus.{headWords, stateWords, stateLeft, boardOf, hostTrial, ofTrial, trialBy}
 
 filled-at : (d n i : ℕ) (xs : List ℕ) → i < n → getD (filled d n xs) i d ≡ getD xs i d
 filled-at d zero i xs h = absurd (omega arith)
@@ -106,15 +107,18 @@ shown n m xs bs ws e h s ew =
     store-stop n m (λ i. getD xs i 0) (λ i. getD xs i 0) bs ws h s (λ i l. refl) ew ∙ ap (λ (l : List ℕ). laid l bs) (tabulate-all m xs e)
 
 -- WHAT GOES BACK, of boards made of numbers
-pub host-trial : (w : Width) (o : Outcome) (gr ar : Slices) (g a : Board) (gateDriver antennaDriver inplace gateExponent antennaExponent : ℕ) (gateRead gateWrite antennaRead antennaWrite events state st : List ℕ) (n : ℕ)
+pub host-trial : (w : Width) (o : Outcome) (gateLeft antennaLeft : List ℕ) (g a : Board) (gateDriver antennaDriver inplace gateExponent antennaExponent : ℕ)
+    (gateRead gateWrite antennaRead antennaWrite events state st : List ℕ) (n : ℕ)
     → g ≡ boardOf w gateDriver inplace gateExponent → a ≡ boardOf w antennaDriver (inplace / 2) antennaExponent
-    → trialLeft o gr ar ≡ trialOf g a (lent w gateRead) (lent w gateWrite) (lent w antennaRead) (lent w antennaWrite) events
+    → Tried (widthBits w) g a gateRead gateWrite antennaRead antennaWrite events o gateLeft antennaLeft
     → (n ≡ o .number) × (st ≡ stateLeft (o .number) (stateOf (o .gate)) (stateOf (o .antenna)) state)
-    → hostTrial n (pick w gr) (pick w ar) st
+    → hostTrial n gateLeft antennaLeft st
     ≡ trialBy w gateDriver antennaDriver inplace gateExponent antennaExponent gateRead gateWrite antennaRead antennaWrite events state
-host-trial w o gr ar g a gateDriver antennaDriver inplace gateExponent antennaExponent gateRead gateWrite antennaRead antennaWrite events state st n p q e s =
-    ap₂ (λ (m : ℕ) (l : List ℕ). hostTrial m (pick w gr) (pick w ar) l) (s .0) (s .1)
-    ∙ ap (λ (y : TrialLeft). ofTrial w y state) (e ∙ ap₂ (λ (y z : Board). trialOf y z (lent w gateRead) (lent w gateWrite) (lent w antennaRead) (lent w antennaWrite) events) p q)
+host-trial w o gateLeft antennaLeft g a gateDriver antennaDriver inplace gateExponent antennaExponent
+    gateRead gateWrite antennaRead antennaWrite events state st n p q t s =
+    ap₂ (λ (m : ℕ) (l : List ℕ). hostTrial m gateLeft antennaLeft l) (s .0) (s .1)
+    ∙ ap (λ (y : TrialLeft). ofTrial y state)
+    (t .same ∙ ap₂ (λ (y z : Board). trialOf (widthBits w) y z gateRead gateWrite antennaRead antennaWrite events) p q)
 
 -- SIX WORDS
 pub six : {a a′ b b′ c c′ d d′ e e′ f f′ : ℕ} → a ≡ a′ → b ≡ b′ → c ≡ c′ → d ≡ d′ → e ≡ e′ → f ≡ f′ → _≡_ {A = List ℕ} (a ∷ b ∷ c ∷ d ∷ e ∷ f ∷ []) (a′ ∷ b′ ∷ c′ ∷ d′ ∷ e′ ∷ f′ ∷ [])

@@ -17,7 +17,9 @@ use agreement::board::Board;
 use bus::station::Station;
 use bus::trial::EndState;
 use bus::trial::Outcome;
-use bus::trial::trial;
+use bus::trial::trial_u8;
+use bus::trial::trial_u16;
+use bus::trial::trial_u32;
 use sequences::access::Access;
 use words::transaction::flag;
 use words::width::Width;
@@ -155,27 +157,13 @@ pub extern "C" fn lpspi_trial_u8(
 {
     let gate = board(Width::U8, gate_driver, inplace, gate_exponent);
     let antenna = board(Width::U8, antenna_driver, inplace / 2, antenna_exponent);
-    let mut gate_16 = [0u16; 1];
-    let mut antenna_16 = [0u16; 1];
-    let none_16 = [0u16; 1];
-    let mut gate_32 = [0u32; 1];
-    let mut antenna_32 = [0u32; 1];
-    let none_32 = [0u32; 1];
-    let left = trial(
+    let left = trial_u8(
         gate,
         antenna,
         gate_read,
-        &mut gate_16,
-        &mut gate_32,
         gate_write,
-        &none_16,
-        &none_32,
         antenna_read,
-        &mut antenna_16,
-        &mut antenna_32,
         antenna_write,
-        &none_16,
-        &none_32,
         events,
     );
     report(left, state)
@@ -203,27 +191,13 @@ pub extern "C" fn lpspi_trial_u16(
 {
     let gate = board(Width::U16, gate_driver, inplace, gate_exponent);
     let antenna = board(Width::U16, antenna_driver, inplace / 2, antenna_exponent);
-    let mut gate_8 = [0u8; 1];
-    let mut antenna_8 = [0u8; 1];
-    let none_8 = [0u8; 1];
-    let mut gate_32 = [0u32; 1];
-    let mut antenna_32 = [0u32; 1];
-    let none_32 = [0u32; 1];
-    let left = trial(
+    let left = trial_u16(
         gate,
         antenna,
-        &mut gate_8,
         gate_read,
-        &mut gate_32,
-        &none_8,
         gate_write,
-        &none_32,
-        &mut antenna_8,
         antenna_read,
-        &mut antenna_32,
-        &none_8,
         antenna_write,
-        &none_32,
         events,
     );
     report(left, state)
@@ -251,26 +225,12 @@ pub extern "C" fn lpspi_trial_u32(
 {
     let gate = board(Width::U32, gate_driver, inplace, gate_exponent);
     let antenna = board(Width::U32, antenna_driver, inplace / 2, antenna_exponent);
-    let mut gate_8 = [0u8; 1];
-    let mut antenna_8 = [0u8; 1];
-    let none_8 = [0u8; 1];
-    let mut gate_16 = [0u16; 1];
-    let mut antenna_16 = [0u16; 1];
-    let none_16 = [0u16; 1];
-    let left = trial(
+    let left = trial_u32(
         gate,
         antenna,
-        &mut gate_8,
-        &mut gate_16,
         gate_read,
-        &none_8,
-        &none_16,
         gate_write,
-        &mut antenna_8,
-        &mut antenna_16,
         antenna_read,
-        &none_8,
-        &none_16,
         antenna_write,
         events,
     );

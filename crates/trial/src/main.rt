@@ -3,19 +3,23 @@
 //   M S2 P1      order (M or L); for the gate and for the antenna: S (separate) or P (in place), and the FIFO exponent
 //   HELLO        the gate's elements, as text: each byte is one
 //   tag 7        the antenna's elements
-//   gggg aaaa c  events: g and a steps of gate and antenna, G and A busy ones, c a clock, t and r noise at the gate (T, R), T and R at the antenna
+//   gggg aaaa c  events: g and a steps of gate and antenna, G and A busy ones, c a clock, t and r noise at the gate (T, R), T and R at
+//                the antenna
 //
 // An element has 8 bits, unless the first line goes on with the gate's and the antenna's width (8, 16 or 32), as in `M S2 P1 16 16`.
-// A separate read buffer is as long as the longer line and starts as zeros. A space between events is none. At most 512 elements a board and
-// 65,536 letters and spaces of events. A trial that is not so prints `bad` and its number, from 1 on. Lines missing at the end count as empty.
-// An input of more than 262,144 bytes prints `bad`, and none of its trials is run. docs/BUS.md walks through it.
+// A separate read buffer is as long as the longer line and starts as zeros. Spaces between events are passed over. A board has at most 512
+// elements, and a trial at most 65,536 letters and spaces of events. A trial with a line of another form prints `bad` and its number, from
+// 1 on. Lines missing at the end count as empty. An input of more than 262,144 bytes prints `bad`, and none of its trials is run.
+// docs/BUS.md walks through it.
 ghost use Prim.Native.Nat.{_<_, _≤_, max};
 ghost use mathlib.Core.Path.{_≡_};
 ghost use lib.ListN.{length};
 use agreement::board::Board;
 use bus::fifo::Fifo;
 use bus::trial::EndState;
-use bus::trial::trial;
+use bus::trial::trial_u8;
+use bus::trial::trial_u16;
+use bus::trial::trial_u32;
 use libc::STDIN_FILENO;
 use libc::STDOUT_FILENO;
 use sequences::access::Access;
@@ -34,48 +38,50 @@ fn decimal(n: u64) {
     io::print_decimal(STDOUT_FILENO, n);
 }
 
-// A space, and hexadecimal digits.
-fn word(w: u32) {
-    text(b" ");
-    io::print_hex(STDOUT_FILENO, w as u64, 8);
-}
-
-fn byte(b: u8) {
-    text(b" ");
-    io::print_hex(STDOUT_FILENO, b as u64, 2);
-}
-
-fn half(h: u16) {
-    text(b" ");
-    io::print_hex(STDOUT_FILENO, h as u64, 4);
-}
-
-fn bytes(read: &[u8]) {
-    for i in 0..read.len() {
-        byte(read[i]);
-    }
-}
-
-fn halves(read: &[u16]) {
-    for i in 0..read.len() {
-        half(read[i]);
-    }
-}
-
-fn words(read: &[u32]) {
-    for i in 0..read.len() {
-        word(read[i]);
-    }
-}
-
-// A read buffer: the one of the board's width.
-fn show_elements(width: Width, read_u8: &[u8], read_u16: &[u16], read_u32: &[u32]) {
+// The digits of an element.
+fn digits(width: Width) -> usize {
     match width {
-        Width::U8 => bytes(read_u8),
-        Width::U16 => halves(read_u16),
-        Width::U32 => words(read_u32),
+        Width::U8 => 2,
+        Width::U16 => 4,
+        Width::U32 => 8,
     }
-    text(b"\n");
+}
+
+// An element in the digits of a width, behind a space.
+fn element(width: Width, value: u64) {
+    text(b" ");
+    io::print_hex(STDOUT_FILENO, value, digits(width));
+}
+
+fn byte(width: Width, value: u8) {
+    element(width, value as u64);
+}
+
+fn half(width: Width, value: u16) {
+    element(width, value as u64);
+}
+
+fn word(width: Width, value: u32) {
+    element(width, value as u64);
+}
+
+// A read buffer, in the digits of the board's width.
+fn bytes(width: Width, read: &[u8]) {
+    for i in 0..read.len() {
+        byte(width, read[i]);
+    }
+}
+
+fn halves(width: Width, read: &[u16]) {
+    for i in 0..read.len() {
+        half(width, read[i]);
+    }
+}
+
+fn words(width: Width, read: &[u32]) {
+    for i in 0..read.len() {
+        word(width, read[i]);
+    }
 }
 
 // An answer, or that there is none yet.
@@ -101,7 +107,7 @@ fn flag(name: &[u8], on: bool) {
 fn queue(fifo: Fifo) {
     let n = fifo.len();
     for i in 0..n {
-        word(fifo.word(i));
+        word(Width::U32, fifo.word(i));
     }
 }
 
@@ -132,20 +138,12 @@ fn show_number(number: u32) {
     text(b"\n");
 }
 
-// A board: what it comes to, and its read buffer.
-fn show(
-    name: &[u8],
-    end: EndState,
-    width: Width,
-    read_u8: &[u8],
-    read_u16: &[u16],
-    read_u32: &[u32],
-) {
+// A board: what it comes to, and the beginning of the line with its read buffer.
+fn show(name: &[u8], end: EndState) {
     text(name);
     show_end(end);
     text(name);
     text(b" reads");
-    show_elements(width, read_u8, read_u16, read_u32);
 }
 
 // The place of the next newline, or the end.
@@ -253,141 +251,182 @@ fn read_len(inplace: bool, own: usize, longer: usize) -> usize
     if inplace { own } else { longer }
 }
 
-// The trial, with buffers of every width for both boards.
-fn run(
+// The trial, and what it shows.
+fn run_u8(
     gate: Board,
     antenna: Board,
-    gate_u8: &mut [u8],
-    gate_u16: &mut [u16],
-    gate_u32: &mut [u32],
+    gate_read: &mut [u8],
     gate_line: &[u8],
-    gate_line_u16: &[u16],
-    gate_line_u32: &[u32],
-    antenna_u8: &mut [u8],
-    antenna_u16: &mut [u16],
-    antenna_u32: &mut [u32],
+    antenna_read: &mut [u8],
     antenna_line: &[u8],
-    antenna_line_u16: &[u16],
-    antenna_line_u32: &[u32],
     codes: &[u8],
 ) {
-    let outcome = trial(
+    let outcome = trial_u8(
         gate,
         antenna,
-        gate_u8,
-        gate_u16,
-        gate_u32,
+        gate_read,
         gate_line,
-        gate_line_u16,
-        gate_line_u32,
-        antenna_u8,
-        antenna_u16,
-        antenna_u32,
+        antenna_read,
         antenna_line,
-        antenna_line_u16,
-        antenna_line_u32,
         codes,
     );
     let gate_width = gate.width;
     let antenna_width = antenna.width;
     show_number(outcome.number);
     let g = outcome.gate;
-    show(
-        b"gate",
-        g,
-        gate_width,
-        &gate_u8[..],
-        &gate_u16[..],
-        &gate_u32[..],
-    );
+    show(b"gate", g);
+    bytes(gate_width, &gate_read[..]);
+    text(b"\n");
     let a = outcome.antenna;
-    show(
-        b"antenna",
-        a,
-        antenna_width,
-        &antenna_u8[..],
-        &antenna_u16[..],
-        &antenna_u32[..],
-    );
+    show(b"antenna", a);
+    bytes(antenna_width, &antenna_read[..]);
+    text(b"\n");
 }
 
-// Buffers for the antenna.
-fn with_antenna(
+fn run_u16(
     gate: Board,
     antenna: Board,
-    longer: usize,
-    gate_u8: &mut [u8],
-    gate_u16: &mut [u16],
-    gate_u32: &mut [u32],
-    gate_line: &[u8],
-    gate_line_u16: &[u16],
-    gate_line_u32: &[u32],
-    antenna_line: &[u8],
+    gate_read: &mut [u16],
+    gate_line: &[u16],
+    antenna_read: &mut [u16],
+    antenna_line: &[u16],
     codes: &[u8],
-)
-    requires { ⌜ (length (now «antenna_line») ≤ 512) × (longer ≤ 512) ⌝ }
-{
-    let own = antenna_line.len();
-    let n = read_len(antenna.inplace, own, longer);
-    let mut read_u8 = [0u8; 512];
-    let mut read_u16 = [0u16; 512];
-    let mut read_u32 = [0u32; 512];
-    let mut line_u16 = [0u16; 512];
-    let mut line_u32 = [0u32; 512];
-    fill_u8(antenna.inplace, antenna_line, &mut read_u8);
-    fill_u16(antenna.inplace, antenna_line, &mut read_u16);
-    fill_u32(antenna.inplace, antenna_line, &mut read_u32);
-    fill_u16(true, antenna_line, &mut line_u16);
-    fill_u32(true, antenna_line, &mut line_u32);
-    run(
+) {
+    let outcome = trial_u16(
         gate,
         antenna,
-        gate_u8,
-        gate_u16,
-        gate_u32,
+        gate_read,
         gate_line,
-        gate_line_u16,
-        gate_line_u32,
-        &mut read_u8[..n],
-        &mut read_u16[..n],
-        &mut read_u32[..n],
+        antenna_read,
         antenna_line,
-        &line_u16[..own],
-        &line_u32[..own],
+        codes,
+    );
+    let gate_width = gate.width;
+    let antenna_width = antenna.width;
+    show_number(outcome.number);
+    let g = outcome.gate;
+    show(b"gate", g);
+    halves(gate_width, &gate_read[..]);
+    text(b"\n");
+    let a = outcome.antenna;
+    show(b"antenna", a);
+    halves(antenna_width, &antenna_read[..]);
+    text(b"\n");
+}
+
+fn run_u32(
+    gate: Board,
+    antenna: Board,
+    gate_read: &mut [u32],
+    gate_line: &[u32],
+    antenna_read: &mut [u32],
+    antenna_line: &[u32],
+    codes: &[u8],
+) {
+    let outcome = trial_u32(
+        gate,
+        antenna,
+        gate_read,
+        gate_line,
+        antenna_read,
+        antenna_line,
+        codes,
+    );
+    let gate_width = gate.width;
+    let antenna_width = antenna.width;
+    show_number(outcome.number);
+    let g = outcome.gate;
+    show(b"gate", g);
+    words(gate_width, &gate_read[..]);
+    text(b"\n");
+    let a = outcome.antenna;
+    show(b"antenna", a);
+    words(antenna_width, &antenna_read[..]);
+    text(b"\n");
+}
+
+// Buffers for both boards, of the elements that their lines have.
+fn with_u8(gate: Board, antenna: Board, gate_line: &[u8], antenna_line: &[u8], codes: &[u8])
+    requires { ⌜ (length (now «gate_line») ≤ 512) × (length (now «antenna_line») ≤ 512) ⌝ }
+{
+    let longer = larger(gate_line.len(), antenna_line.len());
+    let n = read_len(gate.inplace, gate_line.len(), longer);
+    let m = read_len(antenna.inplace, antenna_line.len(), longer);
+    let mut gate_read = [0u8; 512];
+    let mut antenna_read = [0u8; 512];
+    fill_u8(gate.inplace, gate_line, &mut gate_read);
+    fill_u8(antenna.inplace, antenna_line, &mut antenna_read);
+    run_u8(
+        gate,
+        antenna,
+        &mut gate_read[..n],
+        gate_line,
+        &mut antenna_read[..m],
+        antenna_line,
         codes,
     );
 }
 
-// Buffers for the gate, and then for the antenna.
+fn with_u16(gate: Board, antenna: Board, gate_line: &[u8], antenna_line: &[u8], codes: &[u8])
+    requires { ⌜ (length (now «gate_line») ≤ 512) × (length (now «antenna_line») ≤ 512) ⌝ }
+{
+    let longer = larger(gate_line.len(), antenna_line.len());
+    let n = read_len(gate.inplace, gate_line.len(), longer);
+    let m = read_len(antenna.inplace, antenna_line.len(), longer);
+    let mut gate_read = [0u16; 512];
+    let mut antenna_read = [0u16; 512];
+    fill_u16(gate.inplace, gate_line, &mut gate_read);
+    fill_u16(antenna.inplace, antenna_line, &mut antenna_read);
+    let mut gate_elements = [0u16; 512];
+    let mut antenna_elements = [0u16; 512];
+    fill_u16(true, gate_line, &mut gate_elements);
+    fill_u16(true, antenna_line, &mut antenna_elements);
+    run_u16(
+        gate,
+        antenna,
+        &mut gate_read[..n],
+        &gate_elements[..gate_line.len()],
+        &mut antenna_read[..m],
+        &antenna_elements[..antenna_line.len()],
+        codes,
+    );
+}
+
+fn with_u32(gate: Board, antenna: Board, gate_line: &[u8], antenna_line: &[u8], codes: &[u8])
+    requires { ⌜ (length (now «gate_line») ≤ 512) × (length (now «antenna_line») ≤ 512) ⌝ }
+{
+    let longer = larger(gate_line.len(), antenna_line.len());
+    let n = read_len(gate.inplace, gate_line.len(), longer);
+    let m = read_len(antenna.inplace, antenna_line.len(), longer);
+    let mut gate_read = [0u32; 512];
+    let mut antenna_read = [0u32; 512];
+    fill_u32(gate.inplace, gate_line, &mut gate_read);
+    fill_u32(antenna.inplace, antenna_line, &mut antenna_read);
+    let mut gate_elements = [0u32; 512];
+    let mut antenna_elements = [0u32; 512];
+    fill_u32(true, gate_line, &mut gate_elements);
+    fill_u32(true, antenna_line, &mut antenna_elements);
+    run_u32(
+        gate,
+        antenna,
+        &mut gate_read[..n],
+        &gate_elements[..gate_line.len()],
+        &mut antenna_read[..m],
+        &antenna_elements[..antenna_line.len()],
+        codes,
+    );
+}
+
+// The gate's width picks the entry; an antenna of another width is refused there.
 fn with_buffers(gate: Board, antenna: Board, gate_line: &[u8], antenna_line: &[u8], codes: &[u8])
     requires { ⌜ (length (now «gate_line») ≤ 512) × (length (now «antenna_line») ≤ 512) ⌝ }
 {
-    let own = gate_line.len();
-    let longer = larger(own, antenna_line.len());
-    let n = read_len(gate.inplace, own, longer);
-    let mut read_u8 = [0u8; 512];
-    let mut read_u16 = [0u16; 512];
-    let mut read_u32 = [0u32; 512];
-    let mut line_u16 = [0u16; 512];
-    let mut line_u32 = [0u32; 512];
-    fill_u8(gate.inplace, gate_line, &mut read_u8);
-    fill_u16(gate.inplace, gate_line, &mut read_u16);
-    fill_u32(gate.inplace, gate_line, &mut read_u32);
-    fill_u16(true, gate_line, &mut line_u16);
-    fill_u32(true, gate_line, &mut line_u32);
-    with_antenna(
-        gate,
-        antenna,
-        longer,
-        &mut read_u8[..n],
-        &mut read_u16[..n],
-        &mut read_u32[..n],
-        gate_line,
-        &line_u16[..own],
-        &line_u32[..own],
-        antenna_line,
-        codes,
-    );
+    let width = gate.width;
+    match width {
+        Width::U8 => with_u8(gate, antenna, gate_line, antenna_line, codes),
+        Width::U16 => with_u16(gate, antenna, gate_line, antenna_line, codes),
+        Width::U32 => with_u32(gate, antenna, gate_line, antenna_line, codes),
+    }
 }
 
 // S or P, and a digit.

@@ -6,10 +6,10 @@ use Rattle.trial.proofs.halves.Statement.{statement}
 use Rattle.trial.proofs.halves.Tie as tie
 
 abbrev Inv-loop : tie.InvT-loop
-Inv-loop read i₀ i-end i = i ≤ i-end
+Inv-loop width read i₀ i-end i = i ≤ i-end
 
 abbrev μ-loop : tie.MeasureT-loop
-μ-loop read i₀ i-end i = i-end - i
+μ-loop width read i₀ i-end i = i-end - i
 
 loop-holds : tie.Need-loop-holds Inv-loop μ-loop
 loop-holds c = search needs
