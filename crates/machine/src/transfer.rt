@@ -1,6 +1,7 @@
 // The machine of a transfer.
 ghost use mathlib.Core.Path.{_≡_};
-ghost use Rattle.machine.specs.Transfer.{startTransfer, endedTransfer, sendTurn, receiveTurn, turnOf, counted, oneSent, oneReceived, afterSpace, afterSending, afterReceiving, afterRecovery, at, turnAt, dueAccess, resumed};
+ghost use Rattle.machine.specs.Transfer.{startTransfer, endedTransfer, sendTurn, receiveTurn, turnOf, counted, oneSent, oneReceived};
+ghost use Rattle.machine.specs.Transfer.{afterSpace, afterSending, afterReceiving, afterRecovery, at, turnAt, dueAccess, resumed};
 use crate::poll::Poll;
 use crate::poll::Polled;
 use crate::poll::poll_access;
