@@ -1,4 +1,5 @@
--- The two-board bus for a host: both boards at one width, and what a trial leaves: its number, both read buffers, and both ends' states as words.
+-- The two-board bus for a host: both boards at one width, and what a trial leaves: its number, both read buffers, and both ends' states as
+-- words.
 -- Assumes nothing.
 use Prim.Native.Nat.{ℕ, _/_, _%_}
 use mathlib.Core.Bool.{cond}
@@ -35,17 +36,22 @@ answerNumber (Done x) = numberOf x
 -- the answers of the transfer and of the flush, T, R, and how many words each queue has
 abbrev pub headWords : Transfer → Flush → Wire → List ℕ
 headWords transfer flush wire =
-    answerNumber (dueAccess transfer) ∷ answerNumber (flushAccess flush) ∷ flagOf (wire .t) ∷ flagOf (wire .r) ∷ length (wire .transmit) ∷ length (wire .receive) ∷ []
+    answerNumber (dueAccess transfer) ∷ answerNumber (flushAccess flush)
+    ∷ flagOf (wire .t) ∷ flagOf (wire .r)
+    ∷ length (wire .transmit) ∷ length (wire .receive) ∷ []
 
 -- then the transmit queue, 0 past its words, the receive queue, and the 30 registers
 abbrev pub stateWords : Seen → List ℕ
-stateWords x = headWords (x .transfer) (x .flush) (x .wire) ++ (filled 0 16 (x .wire .transmit) ++ (filled 0 16 (x .wire .receive) ++ filled 0 30 (x .registers)))
+stateWords x =
+    headWords (x .transfer) (x .flush) (x .wire)
+    ++ (filled 0 16 (x .wire .transmit) ++ (filled 0 16 (x .wire .receive) ++ filled 0 30 (x .registers)))
 
 -- THE TRIAL
 
 -- in place where bit 0 is set
 abbrev pub boardOf : Width → ℕ → ℕ → ℕ → Board
-boardOf width driver inplace exponent = record { driver = driverOf driver; width = width; inplace = eqb (inplace % 2) 1; exponent = exponent }
+boardOf width driver inplace exponent =
+    record { driver = driverOf driver; width = width; inplace = eqb (inplace % 2) 1; exponent = exponent }
 
 -- slices of other widths are not looked at
 abbrev pub lent : Width → List ℕ → Slices
@@ -68,7 +74,9 @@ stateLeft number gate antenna state = cond (eqb number 9) state (laid (stateWord
 
 -- of what the pair entry leaves, at one width
 abbrev pub ofTrial : Width → TrialLeft → List ℕ → HostTrial
-ofTrial width t state = hostTrial (t .number) (pick width (t .gateReads)) (pick width (t .antennaReads)) (stateLeft (t .number) (t .gate) (t .antenna) state)
+ofTrial width t state =
+    hostTrial (t .number) (pick width (t .gateReads)) (pick width (t .antennaReads))
+    (stateLeft (t .number) (t .gate) (t .antenna) state)
 
 -- bit 0 of `inplace` is the gate's, bit 1 the antenna's
 abbrev pub trialBy : Width → ℕ → ℕ → ℕ → ℕ → ℕ → List ℕ → List ℕ → List ℕ → List ℕ → List ℕ → List ℕ → HostTrial
