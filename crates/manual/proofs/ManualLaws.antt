@@ -35,8 +35,8 @@ either false true h p q = q tt
 -- one of two fields ends where the other begins, or before
 abbrev pub apart : Field → Field → Bool
 apart f g =
-    leb (bitsOf g .position + bitsOf g .width) (bitsOf f .position) || leb (bitsOf f .position + bitsOf f .width)
-    (bitsOf g .position)
+    leb (bitsOf g .position + bitsOf g .width) (bitsOf f .position) || leb
+    (bitsOf f .position + bitsOf f .width) (bitsOf g .position)
 
 abbrev pub sameBits : Field → Field → Bool
 sameBits f g = eqb (bitsOf f .position) (bitsOf g .position) && eqb (bitsOf f .width) (bitsOf g .width)

@@ -231,8 +231,8 @@ module _ (d : Lpspi) (a : Answers) (still : T (stillEnabled (a .enabled))) (off 
   pub recover-restores : Resets (callAccess RecoverFromError) (callAfter RecoverFromError) d a (Write SR (cleared errors))
   unfolding callAccess callAfter
   recover-restores =
-      resets (clearStatus errors) End (callAccess RecoverFromError) (λ s e. rw e refl) d a still off (Write SR (cleared errors))
-      refl
+      resets (clearStatus errors) End (callAccess RecoverFromError) (λ s e. rw e refl) d a still off
+      (Write SR (cleared errors)) refl
 
   pub recovery-restores : Resets recoveryAccess recoveryAfter d a (Write SR (cleared errors))
   recovery-restores =

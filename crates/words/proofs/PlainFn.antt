@@ -92,8 +92,8 @@ module _ (ps : List Param) (R : Param) (φ : Denots (rows ps) → R .0 .Denot �
     exits r is e =
         qed W []
         ∵ suffices ! _
-        (ends-at 𝓤 H A (ended ps R) (dropped ps) clauses W ((tt, tt, tt, a, passed ps a), tt) (R .1 .val r) r (lasts ps a)
-        (fits ps a)) $
+        (ends-at 𝓤 H A (ended ps R) (dropped ps) clauses W ((tt, tt, tt, a, passed ps a), tt) (R .1 .val r) r
+        (lasts ps a) (fits ps a)) $
         says ! e $
         owned ! (R .0) (Is (R .0)) (R .1 .makes 𝓤 H A W) r _ is $
         use0 W (‵ (Had ps a (passed ps a))) (had ps a (passed ps a)) $ nothing ! $ done !

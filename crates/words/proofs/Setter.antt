@@ -82,8 +82,7 @@ set-ended R =
       signature = record {
         lifetimes = 1;
         outlives = [];
-        params = RefMutOf (0 ∷ []) tt (plain (λ _. T.the-row)) (λ _. tt)
-            ∷ plain (λ _. R) ∷ [];
+        params = RefMutOf (0 ∷ []) tt (plain (λ _. T.the-row)) (λ _. tt) ∷ plain (λ _. R) ∷ [];
         result = plain (λ _. unit);
       };
       kept = (yes, (yes, tt));
@@ -139,18 +138,9 @@ module _ (k : Name) (R : RattleType) (L : Settable R) (f : R .Denot → ℕ → 
       suffices ! _
       (ends-at 𝓤 H A (set-ended R) (stayed R) (set-clauses R L f 𝓤 H) W (((κ, tt), (q, tt), tt, x, at), tt) vunit tt
       (r, (L .last s, tt)) (tt, (tt, tt))) $
-      says ! e $
-      nothing ! $
-      move ! (3 ∷ 0 ∷ []) $
-      join ! $
-      frame ! $
-      feqI ! (List Val) (vptr b o ∷ []) (vptr b o ∷ []) refl $
-      fjoin3 ! $
-      nothing ! $
-      owned ! R (Is R) (L .makes 𝓤 H A W) s _ gs $
-      fjoin ! $
-      move ! (1 ∷ 0 ∷ []) $
-      fjoin ! $
+      says ! e $ nothing ! $ move ! (3 ∷ 0 ∷ []) $ join ! $
+      frame ! $ feqI ! (List Val) (vptr b o ∷ []) (vptr b o ∷ []) refl $ fjoin3 ! $ nothing ! $
+      owned ! R (Is R) (L .makes 𝓤 H A W) s _ gs $ fjoin ! $ move ! (1 ∷ 0 ∷ []) $ fjoin ! $
       feqI ! (List Val) (vunit ∷ []) (vunit ∷ []) refl $ move ! (1 ∷ 0 ∷ []) $ done !
 
   abbrev to-with : With R L f 𝓤 H A .Ghost
@@ -159,44 +149,22 @@ module _ (k : Name) (R : RattleType) (L : Settable R) (f : R .Denot → ℕ → 
   goes-with : Is T.the-row h (vals h) → ent 𝓤 (sem 𝓤 H A ftrue) (With R L f 𝓤 H A .pre to-with)
   goes-with is =
       qed W (‵ ftrue ∷ []) ∵ nothing ! $ owned ! R (Is R) (L .makes 𝓤 H A W) s _ gs $ fjoin ! $
-      owned ! T.the-row (Is T.the-row) (LL.makes T.the-type T′.the-plain 𝓤 H A) h _ is $
-      fjoin ! $
-      move ! (1 ∷ 0 ∷ []) $
-      join ! $
-      frame ! $
-      done !
+      owned ! T.the-row (Is T.the-row) (LL.makes T.the-type T′.the-plain 𝓤 H A) h _ is $ fjoin ! $ move ! (1 ∷ 0 ∷ []) $
+      join ! $ frame ! $ done !
 
   module _ (C : Calls 𝓤 H) (Λ : Loops 𝓤 H) (fm : FmC 𝓤 H (W .laws) C) (known : Triple 𝓤 (C k) (With R L f 𝓤 H A)) where
     walk : ent 𝓤 (onEntry 𝓤 H A ((set-ended R) .signature) (κ, tt) (q, tt) x at)
         (WpFn 𝓤 H C Λ (setter (L .ty) k) (vptr b o ∷ L .val s ∷ []) Post)
     walk =
         qed W ((‵ (flft κ q) ⊛ ‵ ftrue) ∷ ‵ (owns (MutRef (named 0) κ (T.the-row) ∷ R ∷ []) x at) ∷ []) ∵ split ! $
-        move ! (2 ∷ []) $
-        fsplit ! $
-        fsplit3 ! $
-        drop ! $
-        move ! (0 ∷ 1 ∷ 3 ∷ []) $
+        move ! (2 ∷ []) $ fsplit ! $ fsplit3 ! $ drop ! $ move ! (0 ∷ 1 ∷ 3 ∷ []) $
         -- [obs; the borrow; the token; what the flag owns; true]
         enter ! C Λ (setter (L .ty) k) (vptr b o ∷ L .val s ∷ []) _ $
-        alloc1 !
-        (λ l₀.
-        alloc1 !
-        (λ l₁.
-        alloc1 !
-        (λ l₂.
-        alloc1 !
-        (λ l₃.
-        alloc1 !
-        (λ l₄. alloc0 ! $
-        params1 ! $
-        pass1 ! (init ! 6 refl (tt, tt)) $
-        pass1 ! (init ! 4 refl (L .typed 𝓤 H A W s gs)) $
-        pass0 ! $
+        alloc1 ! (λ l₀. alloc1 ! (λ l₁. alloc1 ! (λ l₂. alloc1 ! (λ l₃. alloc1 ! (λ l₄. alloc0 ! $ params1 ! $
+        pass1 ! (init ! 6 refl (tt, tt)) $ pass1 ! (init ! 4 refl (L .typed 𝓤 H A W s gs)) $ pass0 ! $
         move ! (10 ∷ 11 ∷ 12 ∷ []) $
-        opens ! tt (T.the-row) {h = h} b o
-        (λ vs.
-        spelt ! (T.the-row) (Is (T.the-row)) (shows 𝓤 H A (T.the-row)) vals (LL.tells T.the-type T′.the-laws) fullShare h vs b
-        o $
+        opens ! tt (T.the-row) {h = h} b o (λ vs.
+        spelt ! (T.the-row) (Is (T.the-row)) (shows 𝓤 H A (T.the-row)) vals (LL.tells T.the-type T′.the-laws) fullShare h vs b o $
         move ! (1 ∷ []) $ peeks ! T.the-row (Is T.the-row) (shows 𝓤 H A T.the-row) h (vals h) (λ is. drop ! $
         -- [the struct's cell; the open borrow; obs; auth; _4; …; _3; …; _2; …; _1; …; _0; …]
         assigns ! (of-opd ! (load ! (from ! (hop ! (look ! 10 refl) (stop !))) (look-raw ! 0 refl))) (from ! (stop !))
@@ -205,19 +173,11 @@ module _ (k : Name) (R : RattleType) (L : Settable R) (f : R .Denot → ℕ → 
         calls-at ! fm (With R L f 𝓤 H A) known to-with
         (and-then ! (load ! (from ! (stop !)) (look ! 5 refl))
         (and-then ! (load ! (from ! (stop !)) (look ! 9 refl)) (no-more !)))
-        (λ v.
-        use1 W
-        (later
-        (some
-        (λ (r : Transaction).
-        (‵ ftrue ⊛ ‵ (T.the-row .own r (v ∷ [])))
+        (λ v. use1 W
+        (later (some (λ (r : Transaction). (‵ ftrue ⊛ ‵ (T.the-row .own r (v ∷ [])))
         ⊛ raw (ensured 𝓤 H A (with-ended R) (with-clauses R L f 𝓤 H) tt (h, (s, tt)) tt r))))
-        (id⊢ 𝓤 _) $
-        await ! tt $
-        pick ! (λ r.
-        split ! $
-        move ! (1 ∷ []) $
-        use1 W (raw (fact 𝓤 (r .0 ≡ f s (h .0)))) (with-says R L f 𝓤 H A h s r) $
+        (id⊢ 𝓤 _) $ await ! tt $ pick ! (λ r.
+        split ! $ move ! (1 ∷ []) $ use1 W (raw (fact 𝓤 (r .0 ≡ f s (h .0)))) (with-says R L f 𝓤 H A h s r) $
         heard ! (r .0 ≡ f s (h .0)) (λ e. split ! $ drop ! $
         peeks ! T.the-row (Is T.the-row) (shows 𝓤 H A T.the-row) r (v ∷ []) (λ is′.
         -- [what r owns; the struct's cell; the open borrow; obs; auth; _4; …; _3; …; _2; …; _1; …; _0; …]
@@ -227,21 +187,12 @@ module _ (k : Name) (R : RattleType) (L : Settable R) (f : R .Denot → ℕ → 
         assigns ! (of-opd ! (unit-lit !)) (from ! (stop !)) (init ! 13 refl (tt, tt)) $
         move ! (1 ∷ 0 ∷ []) $ closes ! tt (T.the-row) r (v ∷ []) b o $
         returns ! (look ! 11 refl) $ forget ! 3 refl $ forget ! 5 refl $ forget ! 7 refl $ forget ! 9 refl $ forget ! 11 refl $
-        move ! (11 ∷ 12 ∷ []) $
-        free1 ! $
-        move ! (9 ∷ 10 ∷ []) $
-        free1 ! $
-        move ! (7 ∷ 8 ∷ []) $
-        free1 ! $
-        move ! (5 ∷ 6 ∷ []) $
-        free1 ! $
-        move ! (3 ∷ 4 ∷ []) $
-        free1 ! $
-        free0 ! $
+        move ! (11 ∷ 12 ∷ []) $ free1 ! $ move ! (9 ∷ 10 ∷ []) $ free1 ! $ move ! (7 ∷ 8 ∷ []) $ free1 ! $ move ! (5 ∷ 6 ∷ []) $
+        free1 ! $ move ! (3 ∷ 4 ∷ []) $ free1 ! $ free0 ! $
         keep ! (0 ∷ 1 ∷ 2 ∷ []) $ by ! (exits r e))))))))))))
 
-module _ (k : Name) (R : RattleType) (L : Settable R) (f : R .Denot → ℕ → ℕ) {M : Type 1} (𝓤 : URA M) (H : Heap 𝓤) (A : Atoms 𝓤)
-    (W : Given 𝓤 H A) where
+module _ (k : Name) (R : RattleType) (L : Settable R) (f : R .Denot → ℕ → ℕ) {M : Type 1} (𝓤 : URA M) (H : Heap 𝓤)
+    (A : Atoms 𝓤) (W : Given 𝓤 H A) where
   walks : (C : Calls 𝓤 H) (Λ : Loops 𝓤 H) → FmC 𝓤 H (W .laws) C → Triple 𝓤 (C k) (With R L f 𝓤 H A)
       → Walks 𝓤 H A (set-ended R) (stayed R) (WpFn 𝓤 H C Λ (setter (L .ty) k)) (set-clauses R L f 𝓤 H)
   walks C Λ fm known =
@@ -249,8 +200,8 @@ module _ (k : Name) (R : RattleType) (L : Settable R) (f : R .Denot → ℕ → 
       (λ κs. (ptr-vals, ((λ y. L .val y ∷ []), tt))) (λ κs. (mut-tells (named 0) (κs .0) (T.the-row), (L .tells, tt)))
       (λ κs qs bounds a _ are.
       via 𝓤 _ (fst∗ 𝓤 _ (emp 𝓤))
-      (walk k R L f 𝓤 H A W (κs .0) (qs .0) (a .0 .ptr .0) (a .0 .ptr .1) (a .0 .name) (a .0 .now) (a .1 .0) (are .1 .0) C Λ
-      fm known))
+      (walk k R L f 𝓤 H A W (κs .0) (qs .0) (a .0 .ptr .0) (a .0 .ptr .1) (a .0 .name) (a .0 .now) (a .1 .0)
+      (are .1 .0) C Λ fm known))
 
   goes : AllGo 𝓤 H A W 1 ((set-ended R) .signature .params) ((set-ended R) .kept) (stayed R)
   goes = (goes-ref 𝓤 H A W 1 0 tt (plain (λ _. T.the-row)), (goes-none 𝓤 H A W 1 (λ _. R) yes (λ κs x w. L .silent x w), tt))

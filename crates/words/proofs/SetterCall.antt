@@ -130,8 +130,8 @@ module _ {M : Type 1} {𝓤 : URA M} {H : Heap 𝓤} {A : Atoms 𝓤} {K : Type 
       (seq (call k (copy (place r []) ∷ copy (place a []) ∷ []) (place u [])) rest))
       q)
   sets t fm R L f known h is s gs {bc = b} ec er eu ea go =
-      assigns t (addr t (found ec)) (found er) (init t 1 refl (tt, tt)) $
-      lft-new t tt (λ α. move t (1 ∷ []) $ lends t tt (α ∷ []) b h (is .0) (λ γ.
+      assigns t (addr t (found ec)) (found er) (init t 1 refl (tt, tt)) $ lft-new t tt (λ α. move t (1 ∷ []) $
+      lends t tt (α ∷ []) b h (is .0) (λ γ.
       -- [the borrow; the lender's part; the token; r; u; a; …]
       move t (2 ∷ 0 ∷ []) $
       use2 W (raw (Set R L f 𝓤 H A .pre (to-set R L f 𝓤 H A (α ∷ []) b γ h s))) (goes-set R L f 𝓤 H A (α ∷ []) b γ h s W gs) $

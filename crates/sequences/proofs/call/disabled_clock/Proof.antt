@@ -20,8 +20,8 @@ returns c =
     let a = c .before .before .args in
     c .entry-move .ensures
     ∙ sym
-    (List·getD-append (disabledEntry (WaitClock (a .clock))) (Write CCR (clockWord (a .clock)) ∷ modify Restore) End (a .place)
-    (c .before .if1 .taken))
+    (List·getD-append (disabledEntry (WaitClock (a .clock))) (Write CCR (clockWord (a .clock)) ∷ modify Restore) End
+    (a .place) (c .before .if1 .taken))
 
 returns-2 : tie.Need-returns-2
 returns-2 c =

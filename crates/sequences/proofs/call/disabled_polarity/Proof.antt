@@ -22,8 +22,8 @@ returns c =
     let a = c .before .before .args in
     c .entry-move .ensures
     ∙ sym
-    (List·getD-append (disabledEntry Wait) (Keep CFGR1 ∷ modify (Polarity (a .pcs) (a .polarity)) ++ modify Restore) End (a .place)
-    (c .before .if1 .taken))
+    (List·getD-append (disabledEntry Wait) (Keep CFGR1 ∷ modify (Polarity (a .pcs) (a .polarity)) ++ modify Restore) End
+    (a .place) (c .before .if1 .taken))
 
 returns-2 : tie.Need-returns-2
 returns-2 c =

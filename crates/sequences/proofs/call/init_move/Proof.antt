@@ -23,8 +23,8 @@ returns c =
 returns-2 : tie.Need-returns-2
 returns-2 c =
     c .four .ensures
-    ∙ behind resetMoves (Set Controller ∷ Size Tx ∷ Set HalfFull ∷ Set (Enable true) ∷ []) (c .before .before .args .place) End
-    (c .before .if1 .left)
+    ∙ behind resetMoves (Set Controller ∷ Size Tx ∷ Set HalfFull ∷ Set (Enable true) ∷ []) (c .before .before .args .place)
+    End (c .before .if1 .left)
 
 pub init-move-spec : {M : Type 1} → statement M
 init-move-spec = tie.close (tie.spec (λ c κs. search needs) returns (λ c κs. search needs) returns-2)

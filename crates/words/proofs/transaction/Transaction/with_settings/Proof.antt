@@ -129,13 +129,7 @@ module _ {M : Type 1} (𝓤 : URA M) (H : Heap 𝓤) (A : Atoms 𝓤) (W : Given
       returns ! (look ! 38 refl) $
       forget ! 38 refl $ forget ! 36 refl $ forget ! 11 refl $ forget ! 17 refl $ forget ! 9 refl $ forget ! 7 refl $
       forget ! 5 refl $ forget ! 3 refl $ forget ! 15 refl $ forget ! 13 refl $ forget ! 0 refl $
-      move ! (38 ∷ 39 ∷ []) $
-      free1 ! $
-      move ! (36 ∷ 37 ∷ []) $
-      free1 ! $
-      move ! (11 ∷ 35 ∷ []) $
-      free1 ! $
-      move ! (16 ∷ 33 ∷ []) $
+      move ! (38 ∷ 39 ∷ []) $ free1 ! $ move ! (36 ∷ 37 ∷ []) $ free1 ! $ move ! (11 ∷ 35 ∷ []) $ free1 ! $ move ! (16 ∷ 33 ∷ []) $
       free1 ! $
       move ! (9 ∷ 31 ∷ []) $ free1 ! $ move ! (7 ∷ 29 ∷ []) $ free1 ! $ move ! (5 ∷ 27 ∷ []) $ free1 ! $ move ! (3 ∷ 25 ∷ []) $ free1 ! $
       move ! (10 ∷ 23 ∷ []) $ free1 ! $ move ! (8 ∷ 21 ∷ []) $ free1 ! $ move ! (0 ∷ 19 ∷ []) $ free1 ! $ move ! (1 ∷ 17 ∷ []) $ free1 ! $
