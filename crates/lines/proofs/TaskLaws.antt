@@ -174,11 +174,11 @@ heads (w ∷ o ∷ []) s e = absurd (Option·none-ne-some s e)
 heads (w ∷ o ∷ n ∷ []) s e =
     let k =
     bound (widthOf w)
-    (λ k. bind (orderOf o) (λ order. bind (count n) (λ budget. some (record { width = k; order = order; budget = budget })))) s
-    e in
+    (λ k. bind (orderOf o) (λ order. bind (count n) (λ budget. some (record { width = k; order = order; budget = budget }))))
+    s e in
     let r =
-    bound (orderOf o) (λ order. bind (count n) (λ budget. some (record { width = k .value; order = order; budget = budget }))) s
-    (k .second) in
+    bound (orderOf o)
+    (λ order. bind (count n) (λ budget. some (record { width = k .value; order = order; budget = budget }))) s (k .second) in
     let b = bound (count n) (λ budget. some (record { width = k .value; order = r .value; budget = budget })) s (r .second) in
     subst Heads (Option·some-injective (record { width = k .value; order = r .value; budget = b .value }) s (b .second))
     (width-named w (k .value) (k .first), count-below n (b .value) (b .first))
@@ -197,17 +197,19 @@ header-small fs s e = named-small (s .width) (heads fs s e .0)
 with-sound : (s : Header) (write read script : List ℕ) (j : Task) → Heads s → askedWith s write read script ≡ some j → Sound j
 with-sound s write read script j h e =
     let few : Option ℕ = bind (count read) (λ n. only (leb n 512) n) in
-    let w = bound (lineElements (s .width) 512 write)
+    let w =
+    bound (lineElements (s .width) 512 write)
     (λ ws.
     bind few (λ n. bind (lineElements 32 8000 script) (λ vs. some (record { header = s; write = ws; read = n; script = vs }))))
     j e in
     let n =
     bound few
-    (λ n. bind (lineElements 32 8000 script) (λ vs. some (record { header = s; write = w .value; read = n; script = vs }))) j
-    (w .second) in
+    (λ n. bind (lineElements 32 8000 script) (λ vs. some (record { header = s; write = w .value; read = n; script = vs })))
+    j (w .second) in
     let v =
-    bound (lineElements 32 8000 script) (λ vs. some (record { header = s; write = w .value; read = n .value; script = vs })) j
-    (n .second) in
+    bound (lineElements 32 8000 script)
+    (λ vs. some (record { header = s; write = w .value; read = n .value; script = vs }))
+    j (n .second) in
     let l = line-below (s .width) 512 write (w .value) (w .first) in
     subst Sound (Option·some-injective (record { header = s; write = w .value; read = n .value; script = v .value }) j (v .second))
     (record { width = h .0; budget = h .1; write = l .0; read = at-most 512 (n .value) (count read) (n .first); elements = l .1 })

@@ -1,12 +1,12 @@
 -- `buslog` (document 01): a separate exchange from four lines, as text.
 -- Assumes nothing.
-use Prim.Native.Nat.{ℕ, _*_, _^_, _<_, _≤_, min}
+use Prim.Native.Nat.{ℕ, _*_, _≤_, min}
 use mathlib.Core.Bool.{cond}
 use mathlib.Core.List.{List, _++_}
 use mathlib.Core.Option.{Option, none, some}
 use mathlib.Core.Path.{_≡_}
 use lib.Dec.{leb}
-use lib.ListN.{length, getD, take, replicate}
+use lib.ListN.{length, take, replicate}
 use Rattle.words.specs.Word.{laid}
 use Rattle.sequences.specs.Driver.{startDriver, withOrder}
 use Rattle.transfers.specs.Transfers.{TransferLeft, exchangeSeparate}
@@ -45,14 +45,3 @@ pub record Printed (text before after : List ℕ) (n : ℕ) : Type 0 where
   pub count : n ≡ length text
   pub fits : n ≤ length after
   pub buffer : after ≡ laid text before
-
--- what the listing of an exchange asks of its buffers: n elements to read, those of ws to write, of k bits each
-pub record Listable (k n : ℕ) (ws out : List ℕ) : Type 0 where
-  -- room for the longest listing: 8,000 accesses of 14 bytes, 512 elements of 9, a result of 18
-  pub room : 116626 ≤ length out
-  -- at most 512 elements to read
-  pub read : n ≤ 512
-  -- at most 512 to write
-  pub write : length ws ≤ 512
-  -- each of these has k bits
-  pub elements : (i : ℕ) → getD ws i 0 < 2 ^ k

@@ -1,4 +1,4 @@
--- What the code's answers stand for (private contracts cite it).
+-- What the code's answers stand for, and what it asks of its buffers (private contracts cite it).
 -- Assumes nothing.
 use Prim.Native.Nat.{ℕ, _^_, _<_, _≤_}
 use mathlib.Core.List.{List}
@@ -59,3 +59,14 @@ pub record Sound (j : Task) : Type 0 where
   pub write : length (j .write) ≤ 512
   pub read : j .read ≤ 512
   pub elements : (i : ℕ) → getD (j .write) i 0 < 2 ^ (j .header .width)
+
+-- what the listing of an exchange asks of its buffers: n elements to read, those of ws to write, of k bits each
+pub record Listable (k n : ℕ) (ws out : List ℕ) : Type 0 where
+  -- room for the longest listing: 8,000 accesses of 14 bytes, 512 elements of 9, a result of 18
+  pub room : 116626 ≤ length out
+  -- at most 512 elements to read
+  pub read : n ≤ 512
+  -- at most 512 to write
+  pub write : length ws ≤ 512
+  -- each of these has k bits
+  pub elements : (i : ℕ) → getD ws i 0 < 2 ^ k

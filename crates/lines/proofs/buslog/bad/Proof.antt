@@ -21,8 +21,8 @@ returns c =
     written-then (p₂ .last .0) (p₃ .last .0) (p₄ .last .0) (p₂ .result) (p₃ .result) (100 ∷ []) (10 ∷ []) (p₃ .ensures .0)
     (p₃ .ensures .1) (p₄ .ensures .1) in
     let e₂ =
-    written-then (p₁ .last .0) (p₂ .last .0) (p₄ .last .0) (p₁ .result) (p₂ .result) (97 ∷ []) (100 ∷ 10 ∷ []) (p₂ .ensures .0)
-    (p₂ .ensures .1) e₃ in
+    written-then (p₁ .last .0) (p₂ .last .0) (p₄ .last .0) (p₁ .result) (p₂ .result) (97 ∷ []) (100 ∷ 10 ∷ [])
+    (p₂ .ensures .0) (p₂ .ensures .1) e₃ in
     record {
       count = omega (arith, p₁ .ensures .0, p₂ .ensures .0, p₃ .ensures .0, p₄ .ensures .0);
       fits =
@@ -39,8 +39,8 @@ returns c =
             c₁₄ .before .before .before .pre,
           );
       buffer =
-          written-then out (p₁ .last .0) (p₄ .last .0) 0 (p₁ .result) (98 ∷ []) (97 ∷ 100 ∷ 10 ∷ []) (p₁ .ensures .0)
-          (p₁ .ensures .1) e₂;
+          written-then out (p₁ .last .0) (p₄ .last .0) 0 (p₁ .result) (98 ∷ []) (97 ∷ 100 ∷ 10 ∷ [])
+          (p₁ .ensures .0) (p₁ .ensures .1) e₂;
     }
 
 pub bad-spec : {M : Type 1} → statement M

@@ -27,8 +27,8 @@ returns c =
     (λ (z : List ℕ).
     Printed
     (listing w
-    (exchangeSeparate w (withOrder (a .header .order) startDriver) (zeros (a .reads)) (a .write .now) (a .header .budget)
-    (a .script .now) z))
+    (exchangeSeparate w (withOrder (a .header .order) startDriver) (zeros (a .reads)) (a .write .now)
+    (a .header .budget) (a .script .now) z))
     (a .out .now) (r .last .1 .1 .1 .1 .1 .0) (r .result))
     (take-zeros 16000 (2 * l .result) (omega (arith, l .ensures)) ∙ ap (λ (m : ℕ). zeros (2 * m)) (l .ensures)) (r .ensures)
 

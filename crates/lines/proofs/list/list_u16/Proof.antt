@@ -7,7 +7,7 @@ use native.Mathlib.Omega.{arith}
 use lib.ListN.{length}
 use Rattle.transfers.specs.Transfers.{transferLeft, exchangeSeparate}
 use Rattle.transfers.proofs.CallLaws.{Counts}
-use Rattle.lines.specs.Buslog.{Listable}
+use Rattle.lines.specs.Parse.{Listable}
 use Rattle.lines.proofs.PrintedLaws.{exchange-counts, listed}
 use borrow.Author.Needs.{needs}
 use Rattle.lines.proofs.list.list_u16.Statement.{statement}

@@ -44,8 +44,8 @@ returns-3 c =
     let w = take (u₁ .result) line in
     let u₂ = c .before .before .before .up-to2 in
     let p₂ =
-    next-part space line (u₁ .result) (u₂ .result) (c .before .before .before .before .if1 .left) (u₂ .ensures .0)
-    (u₂ .ensures .1) in
+    next-part space line (u₁ .result) (u₂ .result) (c .before .before .before .before .if1 .left)
+    (u₂ .ensures .0) (u₂ .ensures .1) in
     let o = take (u₂ .result - (u₁ .result + 1)) (drop (u₁ .result + 1) line) in
     let u₃ = c .before .up-to3 in
     let p₃ = next-part space line (u₂ .result) (u₃ .result) (c .before .before .if2 .left) (u₃ .ensures .0) (u₃ .ensures .1) in

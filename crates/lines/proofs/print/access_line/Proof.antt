@@ -29,8 +29,8 @@ returns c =
     written-then (gap .last .0) (word .last .0) (end .last .0) (gap .result) (word .result) _ _
     (word .ensures .0 ∙ ap (λ (m : ℕ). gap .result + m) (sym eight)) (word .ensures .1) (end .ensures .1) in
     let e₂ =
-    written-then (offset .last .0) (gap .last .0) (end .last .0) (offset .result) (gap .result) _ _ (gap .ensures .0)
-    (gap .ensures .1) e₁ in
+    written-then (offset .last .0) (gap .last .0) (end .last .0) (offset .result) (gap .result) _ _
+    (gap .ensures .0) (gap .ensures .1) e₁ in
     let e₃ =
     written-then (k .last .0) (offset .last .0) (end .last .0) (k .result) (offset .result) _ _
     (offset .ensures .0 ∙ ap (λ (m : ℕ). k .result + m) (sym two)) (offset .ensures .1) e₂ in (

@@ -34,8 +34,8 @@ loop-again c =
     let room : a .at + l .left ≤ length (l .out) = omega (arith, l .inv .1, c .before .before .before .before .pre .2) in (
       omega arith,
       length-set (l .out) (a .at + (l .left - 1)) (c .glyph .result) ∙ l .inv .1,
-      digits-stored (l .out) (a .at) (a .base) (l .left) (l .rest) (c .glyph .result) (c .before .loop-test .taken) room
-          (c .glyph .ensures)
+      digits-stored (l .out) (a .at) (a .base) (l .left) (l .rest) (c .glyph .result) (c .before .loop-test .taken)
+          room (c .glyph .ensures)
           ∙ l .inv .2,
     )
 

@@ -32,14 +32,14 @@ returns c =
     written-then (p₂ .last .0) (d₃ .last .0) (p₃ .last .0) (p₂ .result) (d₃ .result) (decimal (a .answers)) (newline ∷ [])
     (d₃ .ensures .1) (d₃ .ensures .2) (p₃ .ensures .1) in
     let e₄ =
-    written-then (d₂ .last .0) (p₂ .last .0) (p₃ .last .0) (d₂ .result) (p₂ .result) (space ∷ []) t₅ (p₂ .ensures .0)
-    (p₂ .ensures .1) e₅ in
+    written-then (d₂ .last .0) (p₂ .last .0) (p₃ .last .0) (d₂ .result) (p₂ .result) (space ∷ []) t₅
+    (p₂ .ensures .0) (p₂ .ensures .1) e₅ in
     let e₃ =
-    written-then (p₁ .last .0) (d₂ .last .0) (p₃ .last .0) (p₁ .result) (d₂ .result) (decimal (a .accesses)) t₄ (d₂ .ensures .1)
-    (d₂ .ensures .2) e₄ in
+    written-then (p₁ .last .0) (d₂ .last .0) (p₃ .last .0) (p₁ .result) (d₂ .result) (decimal (a .accesses)) t₄
+    (d₂ .ensures .1) (d₂ .ensures .2) e₄ in
     let e₂ =
-    written-then (d₁ .last .0) (p₁ .last .0) (p₃ .last .0) (d₁ .result) (p₁ .result) (space ∷ []) t₃ (p₁ .ensures .0)
-    (p₁ .ensures .1) e₃ in (
+    written-then (d₁ .last .0) (p₁ .last .0) (p₃ .last .0) (d₁ .result) (p₁ .result) (space ∷ []) t₃
+    (p₁ .ensures .0) (p₁ .ensures .1) e₃ in (
       omega (arith, d₁ .ensures .0, p₁ .ensures .0, d₂ .ensures .0, p₂ .ensures .0, d₃ .ensures .0, p₃ .ensures .0),
       omega (
         arith,
@@ -55,8 +55,8 @@ returns c =
         length-append (space ∷ []) t₅,
         length-append (decimal (a .answers)) (newline ∷ []),
       ),
-      written-then (a .out .now) (d₁ .last .0) (p₃ .last .0) (a .at) (d₁ .result) (decimal (a .number)) t₂ (d₁ .ensures .1)
-          (d₁ .ensures .2) e₂,
+      written-then (a .out .now) (d₁ .last .0) (p₃ .last .0) (a .at) (d₁ .result) (decimal (a .number)) t₂
+          (d₁ .ensures .1) (d₁ .ensures .2) e₂,
     )
 
 pub result-line-spec : {M : Type 1} → statement M
