@@ -67,8 +67,7 @@ turned g a f =
       antennaSmall = f .gateSmall;
       width = sym (f .width);
       order = sym (f .order);
-      length = sym
-          (f .length);
+      length = sym (f .length);
     }
 
 same-count : (g a : Start) → Fit g a → frameWords a ≡ frameWords g
@@ -104,8 +103,8 @@ module _ (g a : Start) (f : Fit g a) (vs : List Event) where
   gate-unhurt : OkTwice (seen (after-all .gate)) → tally Gate g a vs .lost + tally Gate g a vs .madeUp ≡ 0
   gate-unhurt h =
       let k = known in
-      ok-unhurt n accepts (job g) (own (job a)) (k .0) (tally Antenna g a vs .madeUp) (tally Gate g a vs) (after-all .gate)
-      (k .1 .gate) h
+      ok-unhurt n accepts (job g) (own (job a)) (k .0) (tally Antenna g a vs .madeUp) (tally Gate g a vs)
+      (after-all .gate) (k .1 .gate) h
 
   antenna-unhurt : OkTwice (seen (after-all .antenna)) → tally Antenna g a vs .lost + tally Antenna g a vs .madeUp ≡ 0
   antenna-unhurt h =
@@ -180,13 +179,13 @@ finishes g a fits vs calm ok eg ea =
       plain = r .plain;
       gate = subst (λ (p : Pair). OkTwice (seen (p .gate))) (sym (after-more (job g) (job a) (freshPair g a) vs (r .events))) (r .gate);
       antenna =
-          subst (λ (p : Pair). OkTwice (seen (p .antenna))) (sym (after-more (job g) (job a) (freshPair g a) vs (r .events)))
-          (r .antenna);
+          subst (λ (p : Pair). OkTwice (seen (p .antenna)))
+          (sym (after-more (job g) (job a) (freshPair g a) vs (r .events))) (r .antenna);
     }
 
 -- DEMAND 3
-pub agreement : (g a : Start) → unfit g a ≡ false → Elements (elementBits g) (started g) → Elements (elementBits a) (started a)
-    → (vs : List Event)
+pub agreement : (g a : Start) → unfit g a ≡ false → Elements (elementBits g) (started g)
+    → Elements (elementBits a) (started a) → (vs : List Event)
     → Agreement g a vs (seen (pairAfter g a vs .gate)) (seen (pairAfter g a vs .antenna)) (bufferOf g (pairAfter g a vs .gate))
     (bufferOf a (pairAfter g a vs .antenna))
 agreement g a fits small-g small-a vs =
@@ -201,8 +200,8 @@ agreement g a fits small-g small-a vs =
           (pairAfter g a vs .gate) (k .1 .gate) h;
       antennaEmpty =
           λ h h′.
-          ok-empty (frameWords g) (accepted g) (job a) (own (job g)) (k .0) 0 (tally Antenna g a vs) (pairAfter g a vs .antenna)
-          (k .1 .antenna) h′;
+          ok-empty (frameWords g) (accepted g) (job a) (own (job g)) (k .0) 0 (tally Antenna g a vs)
+          (pairAfter g a vs .antenna) (k .1 .antenna) h′;
       gateTells = λ h ok. omega (arith, h, gate-unhurt g a f vs ok);
       antennaTells = λ h ok. omega (arith, h, antenna-unhurt g a f vs ok);
       finishes = finishes g a fits vs;

@@ -275,8 +275,8 @@ module _ (n : ℕ) (accepts : Bool) (j : Job) (other : ℕ → ℕ) where
         }
 
     -- A WORD RECEIVED
-    pub core-receive : (k : Work) (rs queue : List ℕ) (w : Wire) → w .receive ≡ queue → Core c c m τ k rs w → length rs < n
-        → 0 < length queue
+    pub core-receive : (k : Work) (rs queue : List ℕ) (w : Wire) → w .receive ≡ queue → Core c c m τ k rs w
+        → length rs < n → 0 < length queue
         → Core c c m τ (oneReceived k) (rs ++ (front queue ∷ [])) (queues (w .transmit) (behind queue) w)
     core-receive k rs [] w e x l h = absurd (omega arith)
     core-receive k rs (v ∷ queue) w e x l h =
@@ -563,8 +563,8 @@ module _ (n : ℕ) (accepts : Bool) (j : Job) (other : ℕ → ℕ) where
   now-stays (Ended FifoExponent) f g a b d N = absurd N
 
   -- A WORD IS RECEIVED only while some are to come, in a transfer that was accepted
-  pub receives-below : (t c m : ℕ) (τ : Tally) (p : Stage) (k : Work) (q : Sequence) (f : Flush) (rs : List ℕ) (w : Wire)
-      (i : ℕ)
+  pub receives-below : (t c m : ℕ) (τ : Tally) (p : Stage) (k : Work) (q : Sequence) (f : Flush)
+      (rs : List ℕ) (w : Wire) (i : ℕ)
       → Now p f t c m τ k rs w → dueAccess (at p k q) ≡ ReceiveWord i
       → (accepts ≡ true) × (length rs < n)
   unfolding dueAccess
@@ -649,8 +649,8 @@ module _ (n : ℕ) (accepts : Bool) (j : Job) (other : ℕ → ℕ) where
     module _ (x : End) (G : Good c c m τ x) (ok : OkTwice (seen x)) where
       pub ok-facts : NowFlush (Flushed Ok) c c m τ (x .transfer .work) (x .received) (x .wire)
       ok-facts =
-          ok-now (x .transfer .phase) (x .transfer .work) (x .transfer .reset) (x .flush) (x .received) (x .wire) (ok .0) (ok .1)
-          (G .now)
+          ok-now (x .transfer .phase) (x .transfer .work) (x .transfer .reset) (x .flush) (x .received) (x .wire)
+          (ok .0) (ok .1) (G .now)
 
       pub ok-unhurt : τ .lost + τ .madeUp ≡ 0
       ok-unhurt = let k = ok-facts in let B = G .base in omega (arith, k .0 .inEq, k .0 .outEq, k .1, k .2, k .3, B .small)

@@ -108,8 +108,7 @@ good-fresh s n accepts other m en ea = by-tests (eqb (total s) 0) (frameAccepted
     by-tests true y e h =
         let z : 0 ≡ n = sym (no-words (s .board .width) (total s) (eqb-true (total s) 0 e)) ∙ en in
         record {
-          base = fresh-base n accepts (job s)
-              other;
+          base = fresh-base n accepts (job s) other;
           now = (fresh-core n accepts (job s) other m (endedTransfer (s .board .driver) Ok .work) (sym h) z z refl refl, z, z);
         }
     by-tests false true e h =
@@ -137,8 +136,8 @@ filled-at d (suc n) (x ∷ xs) zero h = refl
 filled-at d (suc n) (x ∷ xs) (suc i) h = filled-at d n xs i (omega arith)
 
 -- a read buffer over which the words of xs were laid holds them, and dummies
-pub laid-words : (o : BitOrder) (w : Width) (n : ℕ) (xs buf : List ℕ) → Elements (widthBits w) xs → length buf ≤ n → (i : ℕ)
-    → i < length buf
+pub laid-words : (o : BitOrder) (w : Width) (n : ℕ) (xs buf : List ℕ) → Elements (widthBits w) xs → length buf ≤ n
+    → (i : ℕ) → i < length buf
     → getD (laid (unpackWords o (widthBits w) n (packWords o (widthBits w) n xs)) buf) i 0 ≡ getD xs i (dummy (widthBits w))
 laid-words o w n xs buf small l i h =
     let k = widthBits w in

@@ -76,8 +76,8 @@ module _ (n : ℕ) (accepts : Bool) (j : Job) (other : ℕ → ℕ) (c m : ℕ) 
           er⁻¹ = cc
 
       by-direction : (d : Direction)
-          → Now n accepts j other (x .transfer .phase) (x .flush) c c m (noted false false true τ) (x .transfer .work) (x .received)
-          (raised d (x .wire))
+          → Now n accepts j other (x .transfer .phase) (x .flush) c c m (noted false false true τ) (x .transfer .work)
+          (x .received) (raised d (x .wire))
       by-direction Tx = same (raised Tx (x .wire)) refl refl
       by-direction Rx = same (raised Rx (x .wire)) refl refl
 

@@ -12,8 +12,8 @@ use Rattle.bill.specs.AccessBill.{AccessBill, waits}
 use Rattle.bill.proofs.BillLaws.{plan-bill}
 use Rattle.c_api.specs.HostRun.{HostLeft, hostLeft, driverOf, ofTransfer, transferBy}
 
-module _ (kind k word : ℕ) (read write : List ℕ) (budget : ℕ) (script log : List ℕ) {number driver accesses answers : ℕ}
-    {log′ read′ : List ℕ}
+module _ (kind k word : ℕ) (read write : List ℕ) (budget : ℕ) (script log : List ℕ)
+    {number driver accesses answers : ℕ} {log′ read′ : List ℕ}
     (e : hostLeft number driver accesses answers log′ read′
     ≡ ofTransfer word (transferBy kind k (driverOf word) read write budget script log)) where
   abbrev d : Lpspi
@@ -29,8 +29,8 @@ module _ (kind k word : ℕ) (read write : List ℕ) (budget : ℕ) (script log 
       rw (m, n, l) bill
 
   pub host-separate-bill : kind % 4 ≡ 0
-      → AccessBill k (max (length read) (length write)) 8 (waits k d (separatePlan k d read write) budget script) number accesses
-      log′
+      → AccessBill k (max (length read) (length write)) 8
+      (waits k d (separatePlan k d read write) budget script) number accesses log′
   host-separate-bill h =
       handed (exchangeSeparate k d read write budget script log .call) _ _ _ (rw h refl)
       (plan-bill k d budget script log (separatePlan k d read write) read 8 (omega arith))

@@ -154,8 +154,8 @@ parts e o p h s b v ho hp hh hs hb hv = record {
   sckdiv = omega arith;
 }
 
-alike : {o o′ : BitOrder} {p p′ : Polarity} {h h′ : Phase} {s s′ : Pcs} {b b′ v v′ : ℕ} → o ≡ o′ → p ≡ p′ → h ≡ h′ → s ≡ s′
-    → b ≡ b′ → v ≡ v′
+alike : {o o′ : BitOrder} {p p′ : Polarity} {h h′ : Phase} {s s′ : Pcs} {b b′ v v′ : ℕ} → o ≡ o′ → p ≡ p′ → h ≡ h′
+    → s ≡ s′ → b ≡ b′ → v ≡ v′
     → made o p h s b v ≡ made o′ p′ h′ s′ b′ v′
 alike {o} {o′} {p} {p′} {h} {h′} {s} {s′} {b} {b′} {v} {v′} eo ep eh es eb ev =
     ap₂ (λ (x : BitOrder) (y : Polarity). made x y h s b v) eo ep
