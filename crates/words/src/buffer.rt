@@ -31,7 +31,8 @@ fn pack_full_u8(order: BitOrder, xs: &[u8], n: usize, words: &mut [u32])
 // Words `from` to `n`, after those before them.
 fn pack_rest_u8(order: BitOrder, xs: &[u8], total: usize, from: usize, n: usize, words: &mut [u32])
     requires { ⌜ (from ≤ n) × (n ≤ length (now words)) × (n ≤ wordCount 8 total) ⌝ }
-    ensures { λ _. ⌜ ((ws : List ℕ) → now (words .entry) ≡ laid (tabulate from (wordAt order 8 total (now (xs .entry)))) ws
+    ensures { λ _. ⌜ ((ws : List ℕ)
+        → now (words .entry) ≡ laid (tabulate from (wordAt order 8 total (now (xs .entry)))) ws
         → now (words .exit) ≡ laid (tabulate n (wordAt order 8 total (now (xs .entry)))) ws) ⌝ }
 {
     for i in from..n {
@@ -70,7 +71,8 @@ fn pack_rest_u16(
     words: &mut [u32],
 )
     requires { ⌜ (from ≤ n) × (n ≤ length (now words)) × (n ≤ wordCount 16 total) ⌝ }
-    ensures { λ _. ⌜ ((ws : List ℕ) → now (words .entry) ≡ laid (tabulate from (wordAt order 16 total (now (xs .entry)))) ws
+    ensures { λ _. ⌜ ((ws : List ℕ)
+        → now (words .entry) ≡ laid (tabulate from (wordAt order 16 total (now (xs .entry)))) ws
         → now (words .exit) ≡ laid (tabulate n (wordAt order 16 total (now (xs .entry)))) ws) ⌝ }
 {
     for i in from..n {
