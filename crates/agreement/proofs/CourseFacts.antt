@@ -1,6 +1,5 @@
--- The course of an end: over every list of events its accesses are those of its transfer's run, and then of its flush's, on the answers it has had.
--- It holds for any two boards, also those that do not fit.
--- Assumes nothing.
+-- The course of an end: over every list of events its accesses are those of its transfer's run, and then of its flush's, on the answers it
+-- has had. It holds for any two boards, also those that do not fit. Assumes nothing.
 use Prim.Native.Nat.{ℕ, zero, suc, _+_, _<_}
 use mathlib.Core.Bool.{Bool, true, false, cond}
 use mathlib.Core.List.{List, [], _∷_, _++_, append-nil, append-assoc}
@@ -11,7 +10,8 @@ use lib.ListN.{length, length-append, List·getD-append}
 use lib.Seq.{getD-append-seam}
 use borrow.Author.Tests.{lt-ltb, le-ltb, lt-leb}
 use Rattle.manual.specs.declared.Register.{Register}
-use Rattle.manual.specs.declared.Register.the-variants.{PARAM, CR, SR, IER, DER, CFGR0, CFGR1, DMR0, DMR1, CCR, FCR, FSR, TCR, TDR, RSR, RDR}
+use Rattle.manual.specs.declared.Register.the-variants.{PARAM, CR, SR, IER, DER, CFGR0, CFGR1, DMR0}
+use Rattle.manual.specs.declared.Register.the-variants.{DMR1, CCR, FCR, FSR, TCR, TDR, RSR, RDR}
 use Rattle.manual.specs.Manual.{offsetOf}
 use Rattle.sequences.specs.declared.access.Access.{Access}
 use Rattle.sequences.specs.declared.access.Access.the-variants.{Read, Write, Send, Receive, Done}
@@ -78,7 +78,8 @@ answer-of-entry word (Done e) v h = absurd (let z : _≡_ {A = ℕ} 0 1 = cc in 
 answers-last : (log : List Logged) (l : Logged) → answersIn (log ++ (l ∷ [])) ≡ answersIn log ++ answerIn l
 unfolding answersIn
 answers-last [] l = append-nil (answerIn l)
-answers-last (m ∷ log) l = ap (λ (x : List ℕ). answerIn m ++ x) (answers-last log l) ∙ sym (append-assoc (answerIn m) (answersIn log) (answerIn l))
+answers-last (m ∷ log) l =
+    ap (λ (x : List ℕ). answerIn m ++ x) (answers-last log l) ∙ sym (append-assoc (answerIn m) (answersIn log) (answerIn l))
 
 -- ONE ACCESS MORE, of any machine
 module _ {M : Type 0} (next : M → Access) (resume : M → ℕ → M) (words : List ℕ → ℕ → ℕ) where
@@ -90,14 +91,17 @@ module _ {M : Type 0} (next : M → Access) (resume : M → ℕ → M) (words : 
       → step next resume words (xs ++ usedBy a v) (state m (length xs) log rs)
       ≡ state (resume m (answerOf a v)) (length (xs ++ usedBy a v)) (log ++ (entry (words rs) a v ∷ [])) (receivedAfter a v rs)
   unfolding step afterAccess
-  step-makes (Read r) v m xs log rs e h = rw (e, length-append xs (v ∷ []), lt-leb (length xs + 1) (length xs) (omega arith), getD-append-seam xs v [] 0)
+  step-makes (Read r) v m xs log rs e h =
+      rw (e, length-append xs (v ∷ []), lt-leb (length xs + 1) (length xs) (omega arith), getD-append-seam xs v [] 0)
   step-makes (Write r w) v m xs log rs e h = rw (e, append-nil xs, add-zero (length xs))
   step-makes (Send i) v m xs log rs e h = rw (e, append-nil xs, add-zero (length xs))
-  step-makes (Receive i) v m xs log rs e h = rw (e, length-append xs (v ∷ []), lt-leb (length xs + 1) (length xs) (omega arith), getD-append-seam xs v [] 0)
+  step-makes (Receive i) v m xs log rs e h =
+      rw (e, length-append xs (v ∷ []), lt-leb (length xs + 1) (length xs) (omega arith), getD-append-seam xs v [] 0)
   step-makes (Done x) v m xs log rs e h = absurd (let z : _≡_ {A = ℕ} 0 1 = cc in omega arith)
 
   -- a run that made the accesses of a log makes the one that is due next, whatever it is answered
-  makes-next : (a : Access) (v : ℕ) (m₀ m : M) (log : List Logged) (rs : List ℕ) → next m ≡ a → ended a ≡ false → Makes next resume words m₀ log m rs
+  makes-next : (a : Access) (v : ℕ) (m₀ m : M) (log : List Logged) (rs : List ℕ) → next m ≡ a → ended a ≡ false
+      → Makes next resume words m₀ log m rs
       → Makes next resume words m₀ (log ++ (entry (words rs) a v ∷ [])) (resume m (answerOf a v)) (receivedAfter a v rs)
   makes-next a v m₀ m log rs e h k =
       let xs = answersIn log in
@@ -106,7 +110,9 @@ module _ {M : Type 0} (next : M → Access) (resume : M → ℕ → M) (words : 
       rw (answers-last log (entry (words rs) a v), answer-of-entry (words rs) a v h, length-append log (entry (words rs) a v ∷ []))
       (run-last next resume words ys (length log) (start m₀)
       ∙ ap (step next resume words ys)
-      (sym (run-longer next resume words xs ys (omega (arith, length-append xs (usedBy a v))) (λ i h′. sym (List·getD-append xs (usedBy a v) 0 i h′)) (length log) (start m₀) all-made)
+      (sym
+      (run-longer next resume words xs ys (omega (arith, length-append xs (usedBy a v)))
+      (λ i h′. sym (List·getD-append xs (usedBy a v) 0 i h′)) (length log) (start m₀) all-made)
       ∙ k)
       ∙ step-makes a v m xs log rs e h)
 
@@ -133,14 +139,19 @@ module _ {M : Type 0} (next : M → Access) (resume : M → ℕ → M) (words : 
       (k .0 ++ l .0, l .1 ∙ ap (λ (x : List Logged). x ++ l .0) (k .1) ∙ append-assoc (s .log) (k .0) (l .0))
 
   -- a run that made the accesses of a log is the beginning of the one with no limit on accesses (`Unlimited`), on the same answers
-  pub makes-begins : (m m′ : M) (log : List Logged) (rs : List ℕ) (u : State M) → Makes next resume words m log m′ rs → Unlimited next resume words (answersIn log) (start m) u
+  pub makes-begins : (m m′ : M) (log : List Logged) (rs : List ℕ) (u : State M) → Makes next resume words m log m′ rs
+      → Unlimited next resume words (answersIn log) (start m) u
       → (rest : List Logged) × (u .log ≡ log ++ rest)
   makes-begins m m′ log rs u made h =
       let script = answersIn log in
       let k = run-adds script (h .accesses) (run next resume words script (length log) (start m)) in
       let all : run next resume words script (length log + h .accesses) (start m) ≡ u =
-      unlimited-run next resume words script (start m) u h (length log + h .accesses) (omega arith) in
-      (k .0, ap (λ (s : State M). s .log) (sym all ∙ run-add next resume words script (length log) (h .accesses) (start m)) ∙ k .1 ∙ ap (λ (s : State M). s .log ++ k .0) made)
+      unlimited-run next resume words script (start m) u h (length log + h .accesses) (omega arith) in (
+        k .0,
+        ap (λ (s : State M). s .log) (sym all ∙ run-add next resume words script (length log) (h .accesses) (start m))
+            ∙ k .1
+            ∙ ap (λ (s : State M). s .log ++ k .0) made,
+      )
 
 -- WHAT HAS ENDED STAYS
 
@@ -200,8 +211,11 @@ no-flush-yet [] b e h = refl
 no-flush-yet (l ∷ log) b e h = absurd (let z : _≡_ {A = ℕ} 0 1 = cc (h (omega arith)) in omega arith)
 
 module _ {j : Job} {t : Transfer} where
-  transfer-goes-on : {x : End} {log : List Logged} {w : Wire} {registers : List ℕ} (v : ℕ) → ended (dueAccess (x .transfer)) ≡ false → Course j t x log
-      → Course j t (end (resumed (x .transfer) (answerOf (dueAccess (x .transfer)) v)) (x .flush) (receivedAfter (dueAccess (x .transfer)) v (x .received)) w registers)
+  transfer-goes-on : {x : End} {log : List Logged} {w : Wire} {registers : List ℕ} (v : ℕ)
+      → ended (dueAccess (x .transfer)) ≡ false → Course j t x log
+      → Course j t
+      (end (resumed (x .transfer) (answerOf (dueAccess (x .transfer)) v)) (x .flush)
+      (receivedAfter (dueAccess (x .transfer)) v (x .received)) w registers)
       (log ++ (entry (j .words (x .received)) (dueAccess (x .transfer)) v ∷ []))
   transfer-goes-on {x = x} v h c =
       let a = dueAccess (x .transfer) in
@@ -216,8 +230,11 @@ module _ {j : Job} {t : Transfer} where
         turn = λ h′. absurd (omega (arith, h′, ap length none));
       }
 
-  flush-goes-on : {x : End} {log : List Logged} {w : Wire} {registers : List ℕ} (r : Register) (v : ℕ) → flushAccess (x .flush) ≡ Read r → ended (dueAccess (x .transfer)) ≡ true
-      → Course j t x log → Course j t (end (x .transfer) (flushed (x .flush) v) (x .received) w registers) (log ++ (record { at = offsetOf r; value = v } ∷ []))
+  flush-goes-on : {x : End} {log : List Logged} {w : Wire} {registers : List ℕ} (r : Register) (v : ℕ)
+      → flushAccess (x .flush) ≡ Read r → ended (dueAccess (x .transfer)) ≡ true
+      → Course j t x log
+      → Course j t (end (x .transfer) (flushed (x .flush) v) (x .received) w registers)
+      (log ++ (record { at = offsetOf r; value = v } ∷ []))
   flush-goes-on {x = x} r v e h c =
       let l : List Logged = record { at = offsetOf r; value = v } ∷ [] in
       record {
@@ -230,7 +247,8 @@ module _ {j : Job} {t : Transfer} where
       }
 
   -- only queues, flags and registers may have changed
-  no-access : {x : End} {log : List Logged} {w : Wire} {registers : List ℕ} → Course j t x log → Course j t (end (x .transfer) (x .flush) (x .received) w registers) (log ++ [])
+  no-access : {x : End} {log : List Logged} {w : Wire} {registers : List ℕ} → Course j t x log
+      → Course j t (end (x .transfer) (x .flush) (x .received) w registers) (log ++ [])
   no-access {log = log} c = record {
     transferLog = c .transferLog;
     flushLog = c .flushLog;
@@ -240,8 +258,10 @@ module _ {j : Job} {t : Transfer} where
     turn = c .turn;
   }
 
-  flush-step : {m : Transfer} {rs : List ℕ} {w : Wire} {registers : List ℕ} {log : List Logged} (busy : Bool) (f : Flush) → ended (dueAccess m) ≡ true
-      → Course j t (end m f rs w registers) log → Course j t (stepped j busy (end m f rs w registers)) (log ++ accessed j busy (end m f rs w registers))
+  flush-step : {m : Transfer} {rs : List ℕ} {w : Wire} {registers : List ℕ} {log : List Logged} (busy : Bool) (f : Flush)
+      → ended (dueAccess m) ≡ true
+      → Course j t (end m f rs w registers) log
+      → Course j t (stepped j busy (end m f rs w registers)) (log ++ accessed j busy (end m f rs w registers))
   unfolding stepped
   flush-step {m = m} busy Status h c = rw (then-flush (dueAccess m) (Read SR) h, transfer-stays m _ h, h) (flush-goes-on SR _ refl h c)
   flush-step {m = m} busy Sizes h c = rw (then-flush (dueAccess m) (Read PARAM) h, transfer-stays m _ h, h) (flush-goes-on PARAM _ refl h c)
@@ -249,7 +269,8 @@ module _ {j : Job} {t : Transfer} where
   flush-step {m = m} busy (Flushed z) h c = rw (then-flush (dueAccess m) (Done z) h, transfer-stays m _ h, h) (no-access c)
 
   -- EVERY STEP OF AN END KEEPS THE COURSE
-  pub course-step : {x : End} {log : List Logged} (busy : Bool) → Course j t x log → Course j t (stepped j busy x) (log ++ accessed j busy x)
+  pub course-step : {x : End} {log : List Logged} (busy : Bool) → Course j t x log
+      → Course j t (stepped j busy x) (log ++ accessed j busy x)
   unfolding stepped
   course-step {x = x} {log = log} busy c = by-turn (ended (dueAccess (x .transfer))) refl
     where
@@ -259,14 +280,16 @@ module _ {j : Job} {t : Transfer} where
 
 fresh-course : (s : Start) → Course (job s) (transferOf s) (freshEnd s) []
 unfolding times answersIn
-fresh-course s = record { transferLog = []; flushLog = []; parts = refl; transfer = refl; flush = refl; turn = λ h. absurd (omega (arith, h)) }
+fresh-course s =
+    record { transferLog = []; flushLog = []; parts = refl; transfer = refl; flush = refl; turn = λ h. absurd (omega (arith, h)) }
 
 -- A LIST OF EVENTS, of either end
 module _ (g a : Start) (t : Transfer) where
   abbrev OnCourse : Side → Pair → List Logged → Type 0
   OnCourse s p log = Course (job (startAt s g a)) t (atSide s p) log
 
-  course-clock : (s : Side) (ours theirs : List ℕ) (p : Pair) (log : List Logged) → OnCourse s p log → OnCourse s (clockedBy (job g) (job a) ours theirs p) (log ++ [])
+  course-clock : (s : Side) (ours theirs : List ℕ) (p : Pair) (log : List Logged) → OnCourse s p log
+      → OnCourse s (clockedBy (job g) (job a) ours theirs p) (log ++ [])
   unfolding clockedBy
   course-clock Gate [] theirs p log c = no-access c
   course-clock Gate (v ∷ ours) [] p log c = no-access c
@@ -275,7 +298,8 @@ module _ (g a : Start) (t : Transfer) where
   course-clock Antenna (v ∷ ours) [] p log c = no-access c
   course-clock Antenna (v ∷ ours) (u ∷ theirs) p log c = no-access c
 
-  course-event : (s : Side) (v : Event) (p : Pair) (log : List Logged) → OnCourse s p log → OnCourse s (happened (job g) (job a) p v) (log ++ heardBy (job g) (job a) s p v)
+  course-event : (s : Side) (v : Event) (p : Pair) (log : List Logged) → OnCourse s p log
+      → OnCourse s (happened (job g) (job a) p v) (log ++ heardBy (job g) (job a) s p v)
   unfolding happened
   course-event Gate (Step Gate busy) p log c = course-step busy c
   course-event Gate (Step Antenna busy) p log c = no-access c
@@ -293,7 +317,8 @@ module _ (g a : Start) (t : Transfer) where
   unfolding after logOf
   course-after s [] p log c = rw (append-nil log) c
   course-after s (v ∷ vs) p log c =
-      rw append-assoc at (course-after s vs (happened (job g) (job a) p v) (log ++ heardBy (job g) (job a) s p v) (course-event s v p log c))
+      rw append-assoc at
+      (course-after s vs (happened (job g) (job a) p v) (log ++ heardBy (job g) (job a) s p v) (course-event s v p log c))
 
 -- THE COURSE OF EITHER END, for any two boards and every list of events
 pub course : (s : Side) (g a : Start) (vs : List Event) → CourseOf s g a vs

@@ -1,6 +1,5 @@
--- What is known of an end after a list of events, by the phase that it is in, and that its steps keep it. `n` is the count of FIFO words each way,
--- `other` the words that the other end started with.
--- Assumes nothing.
+-- What is known of an end after a list of events, by the phase that it is in, and that its steps keep it. `n` is the count of FIFO words
+-- each way, `other` the words that the other end started with. Assumes nothing.
 use Prim.Native.Nat.{ℕ, suc, _+_, _^_, _<_, _≤_}
 use mathlib.Core.Bool.{Bool, true, false, cond, _||_}
 use mathlib.Core.List.{List, [], _∷_, _++_}
@@ -26,7 +25,8 @@ use Rattle.sequences.specs.declared.access.Access.the-variants.{Read, Write, Se
 use Rattle.sequences.specs.declared.access.Ending.{Ending}
 use Rattle.sequences.specs.declared.access.Ending.the-variants.{Ok, Err, Stopped, Limits, ZeroClock, FifoExponent}
 use Rattle.machine.specs.declared.flush.Flush.{Flush}
-use Rattle.machine.specs.declared.flush.Flush.the-variants.{Status as FlushStatus, Sizes as FlushSizes, Counts as FlushCounts, Ended as Flushed}
+use Rattle.machine.specs.declared.flush.Flush.the-variants.{Status as FlushStatus, Sizes as FlushSizes, Counts as FlushCounts}
+use Rattle.machine.specs.declared.flush.Flush.the-variants.{Ended as Flushed}
 use Rattle.machine.specs.declared.poll.Poll.{Poll}
 use Rattle.machine.specs.declared.poll.Poll.the-variants.{Status, Sizes, Counts}
 use Rattle.machine.specs.declared.poll.Polled.{Polled}
@@ -38,17 +38,23 @@ use Rattle.machine.specs.declared.transfer.Work.{Work}
 use Rattle.machine.specs.Flush.{flushAccess, flushed}
 use Rattle.machine.specs.Poll.{failed, ready}
 use Rattle.sequences.specs.Recovery.{recoveryAccess, recoveryAfter, recovered}
-use Rattle.machine.specs.Transfer.{at, sendTurn, receiveTurn, oneSent, oneReceived, counted, spaceBy, sendingBy, receivingBy, dueAccess, resumed}
+use Rattle.machine.specs.Transfer.{at, sendTurn, receiveTurn, oneSent, oneReceived, counted}
+use Rattle.machine.specs.Transfer.{spaceBy, sendingBy, receivingBy, dueAccess, resumed}
 use Rattle.runs.specs.Run.{answerOf, receivedAfter, ended}
 use Rattle.runs.proofs.Places.{counted-up, done-phase}
 use Rattle.agreement.specs.declared.register.Role.{Role}
-use Rattle.agreement.specs.declared.register.Role.the-variants.{Sizes as sizes, Status as status, Counts as counts, Control as control, Sends as sends, Receives as receives, Holds as holds}
+use Rattle.agreement.specs.declared.register.Role.the-variants.{Sizes as sizes, Status as status, Counts as counts}
+use Rattle.agreement.specs.declared.register.Role.the-variants.{Control as control, Sends as sends, Receives as receives}
+use Rattle.agreement.specs.declared.register.Role.the-variants.{Holds as holds}
 use Rattle.agreement.specs.Start.{Job}
-use Rattle.agreement.specs.End.{Wire, queues, lowered, full, front, behind, emptiedIf, roleOf, placeOf, shows, readBy, writtenBy, answerTo, wireAfter, freshWire, End, end, firstDue, endAccess, stepped}
+use Rattle.agreement.specs.End.{Wire, queues, lowered, full, front, behind, emptiedIf, roleOf, placeOf, shows, readBy}
+use Rattle.agreement.specs.End.{writtenBy, answerTo, wireAfter, freshWire, End, end, firstDue, endAccess, stepped}
 use Rattle.agreement.specs.Tally.{Tally, nothing, overrun, overrunBy}
 use Rattle.agreement.specs.Agreement.{OkTwice, Emptied, seen}
-use Rattle.agreement.proofs.ShownLaws.{shows-t, shows-r, shows-exponent, shows-transmit, shows-receive, below-capacity, capacity-small}
-use Rattle.agreement.proofs.WordLists.{from, length-snoc, snoc-is, uncons, length-behind, emptied-less, emptied-is, lowered-set, false-true, nil-of, all-from}
+use Rattle.agreement.proofs.ShownLaws.{shows-t, shows-r, shows-exponent, shows-transmit, shows-receive}
+use Rattle.agreement.proofs.ShownLaws.{below-capacity, capacity-small}
+use Rattle.agreement.proofs.WordLists.{from, length-snoc, snoc-is, uncons, length-behind, emptied-less}
+use Rattle.agreement.proofs.WordLists.{emptied-is, lowered-set, false-true, nil-of, all-from}
 use Rattle.agreement.proofs.RecoveryFacts.{silent, Quiet, recovery-quiet}
 
 -- the word at a place is that of the start while fewer words were received
@@ -91,8 +97,8 @@ not-done : {x : Ending} {i : ℕ} → Done x ≡ ReceiveWord i → ⊥
 not-done h = let z : _≡_ {A = ℕ} 0 1 = cc in omega arith
 
 module _ (n : ℕ) (accepts : Bool) (j : Job) (other : ℕ → ℕ) where
-  -- WHILE A TRANSFER GOES ON, or once it has answered Ok. t: clocks, as the transmit queue counts them; c: as the receive queue does; m: words that
-  -- the other end made up
+  -- WHILE A TRANSFER GOES ON, or once it has answered Ok. t: clocks, as the transmit queue counts them; c: as the receive queue does; m:
+  -- words that the other end made up
   pub record Core (t c m : ℕ) (τ : Tally) (k : Work) (rs : List ℕ) (w : Wire) : Type 0 where
     pub yes : accepts ≡ true
     pub toSend : k .send ≡ n
@@ -186,38 +192,48 @@ module _ (n : ℕ) (accepts : Bool) (j : Job) (other : ℕ → ℕ) where
     abbrev At : Stage → Flush → Work → List ℕ → Wire → Type 0
     At p f k rs w = Now p f c c m τ k rs w
 
-    now-cond : (y : Bool) (p q : Stage) (f : Flush) (k : Work) (rs : List ℕ) (w : Wire) → (y ≡ true → At p f k rs w) → (y ≡ false → At q f k rs w) → At (cond y p q) f k rs w
+    now-cond : (y : Bool) (p q : Stage) (f : Flush) (k : Work) (rs : List ℕ) (w : Wire) → (y ≡ true → At p f k rs w)
+        → (y ≡ false → At q f k rs w) → At (cond y p q) f k rs w
     now-cond true p q f k rs w g h = g refl
     now-cond false p q f k rs w g h = h refl
 
-    now-polled : (F : Polled → Stage) (y : Bool) (p q : Polled) (f : Flush) (k : Work) (rs : List ℕ) (w : Wire) → (y ≡ true → At (F p) f k rs w) → (y ≡ false → At (F q) f k rs w)
+    now-polled : (F : Polled → Stage) (y : Bool) (p q : Polled) (f : Flush) (k : Work) (rs : List ℕ) (w : Wire)
+        → (y ≡ true → At (F p) f k rs w) → (y ≡ false → At (F q) f k rs w)
         → At (F (cond y p q)) f k rs w
     now-polled F true p q f k rs w g h = g refl
     now-polled F false p q f k rs w g h = h refl
 
-    now-flush : (y : Bool) (p q : Flush) (k : Work) (rs : List ℕ) (w : Wire) → (y ≡ true → NowFlush p c c m τ k rs w) → (y ≡ false → NowFlush q c c m τ k rs w)
+    now-flush : (y : Bool) (p q : Flush) (k : Work) (rs : List ℕ) (w : Wire) → (y ≡ true → NowFlush p c c m τ k rs w)
+        → (y ≡ false → NowFlush q c c m τ k rs w)
         → NowFlush (cond y p q) c c m τ k rs w
     now-flush true p q k rs w g h = g refl
     now-flush false p q k rs w g h = h refl
 
     -- THE TURNS
-    all-done : (f : Flush) (k : Work) (rs : List ℕ) (w : Wire) → c ≤ n → f ≡ FlushStatus → Core c c m τ k rs w → k .send ≤ k .sent → k .receive ≤ k .received → At (Ended Ok) f k rs w
+    all-done : (f : Flush) (k : Work) (rs : List ℕ) (w : Wire) → c ≤ n → f ≡ FlushStatus → Core c c m τ k rs w
+        → k .send ≤ k .sent → k .receive ≤ k .received → At (Ended Ok) f k rs w
     all-done f k rs w l e x hs hr =
         subst (λ (g : Flush). NowFlush g c c m τ k rs w) (sym e)
         (x, omega (arith, x .toSend, x .most), omega (arith, x .toReceive, x .taken, x .inEq))
 
-    pub now-receive-turn : (f : Flush) (k : Work) (rs : List ℕ) (w : Wire) → c ≤ n → f ≡ FlushStatus → Core c c m τ k rs w → At (receiveTurn k) f k rs w
+    pub now-receive-turn : (f : Flush) (k : Work) (rs : List ℕ) (w : Wire) → c ≤ n → f ≡ FlushStatus → Core c c m τ k rs w
+        → At (receiveTurn k) f k rs w
     now-receive-turn f k rs w l e x =
         now-cond (ltb (k .received) (k .receive)) (Receiving Status) (cond (ltb (k .sent) (k .send)) (Sending Status) (Ended Ok)) f k rs w
         (λ h. (x, e, omega (arith, ltb-true (k .received) (k .receive) h, x .taken, x .toReceive)))
-        (λ h. now-cond (ltb (k .sent) (k .send)) (Sending Status) (Ended Ok) f k rs w (λ h′. (x, e, tt, omega (arith, ltb-true (k .sent) (k .send) h′, x .toSend)))
+        (λ h.
+        now-cond (ltb (k .sent) (k .send)) (Sending Status) (Ended Ok) f k rs w
+        (λ h′. (x, e, tt, omega (arith, ltb-true (k .sent) (k .send) h′, x .toSend)))
         (λ h′. all-done f k rs w l e x (ltb-false (k .sent) (k .send) h′) (ltb-false (k .received) (k .receive) h)))
 
-    pub now-send-turn : (f : Flush) (k : Work) (rs : List ℕ) (w : Wire) → c ≤ n → f ≡ FlushStatus → Core c c m τ k rs w → At (sendTurn k) f k rs w
+    pub now-send-turn : (f : Flush) (k : Work) (rs : List ℕ) (w : Wire) → c ≤ n → f ≡ FlushStatus → Core c c m τ k rs w
+        → At (sendTurn k) f k rs w
     now-send-turn f k rs w l e x =
         now-cond (ltb (k .sent) (k .send)) (Sending Status) (cond (ltb (k .received) (k .receive)) (Receiving Status) (Ended Ok)) f k rs w
         (λ h. (x, e, tt, omega (arith, ltb-true (k .sent) (k .send) h, x .toSend)))
-        (λ h. now-cond (ltb (k .received) (k .receive)) (Receiving Status) (Ended Ok) f k rs w (λ h′. (x, e, omega (arith, ltb-true (k .received) (k .receive) h′, x .taken, x .toReceive)))
+        (λ h.
+        now-cond (ltb (k .received) (k .receive)) (Receiving Status) (Ended Ok) f k rs w
+        (λ h′. (x, e, omega (arith, ltb-true (k .received) (k .receive) h′, x .taken, x .toReceive)))
         (λ h′. all-done f k rs w l e x (ltb-false (k .sent) (k .send) h) (ltb-false (k .received) (k .receive) h′)))
 
     -- A WORD SENT
@@ -239,7 +255,8 @@ module _ (n : ℕ) (accepts : Bool) (j : Job) (other : ℕ → ℕ) where
           gotIs = x .gotIs;
         }
 
-    pub base-send : (k : Work) (rs : List ℕ) (w : Wire) → Core c c m τ k rs w → k .sent < n → length (w .transmit) < j .exponent → Base c τ w → Base c τ (pushed rs k w)
+    pub base-send : (k : Work) (rs : List ℕ) (w : Wire) → Core c c m τ k rs w → k .sent < n → length (w .transmit) < j .exponent
+        → Base c τ w → Base c τ (pushed rs k w)
     base-send k rs w x l f B =
         let one = length-snoc (w .transmit) (j .words rs (k .sent)) in
         record {
@@ -249,7 +266,8 @@ module _ (n : ℕ) (accepts : Bool) (j : Job) (other : ℕ → ℕ) where
           room = omega (arith, one, x .outEq);
           txIs = λ h.
               snoc-is (own j) c (w .transmit) (j .words rs (k .sent)) (B .txIs h)
-              (keeps rs (k .sent) (omega (arith, x .inEq, x .outEq, h)) ∙ ap (own j) (let e : k .sent ≡ c + length (w .transmit) = omega (arith, x .outEq, h) in e));
+              (keeps rs (k .sent) (omega (arith, x .inEq, x .outEq, h))
+              ∙ ap (own j) (let e : k .sent ≡ c + length (w .transmit) = omega (arith, x .outEq, h) in e));
           lostLe = B .lostLe;
           madeLe = B .madeLe;
           setT = B .setT;
@@ -257,11 +275,13 @@ module _ (n : ℕ) (accepts : Bool) (j : Job) (other : ℕ → ℕ) where
         }
 
     -- A WORD RECEIVED
-    pub core-receive : (k : Work) (rs queue : List ℕ) (w : Wire) → w .receive ≡ queue → Core c c m τ k rs w → length rs < n → 0 < length queue
+    pub core-receive : (k : Work) (rs queue : List ℕ) (w : Wire) → w .receive ≡ queue → Core c c m τ k rs w
+        → length rs < n → 0 < length queue
         → Core c c m τ (oneReceived k) (rs ++ (front queue ∷ [])) (queues (w .transmit) (behind queue) w)
     core-receive k rs [] w e x l h = absurd (omega arith)
     core-receive k rs (v ∷ queue) w e x l h =
-        let up : counted (k .received) (k .receive) ≡ k .received + 1 = counted-up (k .received) (k .receive) (omega (arith, x .taken, x .toReceive)) in
+        let up : counted (k .received) (k .receive) ≡ k .received + 1 =
+        counted-up (k .received) (k .receive) (omega (arith, x .taken, x .toReceive)) in
         let one = length-snoc rs v in
         let len : length (w .receive) ≡ suc (length queue) = ap length e in
         record {
@@ -273,11 +293,14 @@ module _ (n : ℕ) (accepts : Bool) (j : Job) (other : ℕ → ℕ) where
           outEq = x .outEq;
           most = x .most;
           rxIs = λ a b.
-              let z : v ∷ queue ≡ from other (length rs) (length (v ∷ queue)) = subst (λ (q : List ℕ). q ≡ from other (length rs) (length q)) e (x .rxIs a b) in
+              let z : v ∷ queue ≡ from other (length rs) (length (v ∷ queue)) =
+              subst (λ (q : List ℕ). q ≡ from other (length rs) (length q)) e (x .rxIs a b) in
               uncons other (length rs) v queue z .1 ∙ ap (λ (i : ℕ). from other i (length queue)) (sym one);
           gotIs = λ a b.
-              let z : v ∷ queue ≡ from other (length rs) (length (v ∷ queue)) = subst (λ (q : List ℕ). q ≡ from other (length rs) (length q)) e (x .rxIs a b) in
-              snoc-is other 0 rs v (x .gotIs a b) (uncons other (length rs) v queue z .0 ∙ ap other (let e′ : length rs ≡ 0 + length rs = omega arith in e′));
+              let z : v ∷ queue ≡ from other (length rs) (length (v ∷ queue)) =
+              subst (λ (q : List ℕ). q ≡ from other (length rs) (length q)) e (x .rxIs a b) in
+              snoc-is other 0 rs v (x .gotIs a b)
+              (uncons other (length rs) v queue z .0 ∙ ap other (let e′ : length rs ≡ 0 + length rs = omega arith in e′));
         }
 
     pub base-receive : (queue : List ℕ) (w : Wire) → w .receive ≡ queue → Base c τ w → Base c τ (queues (w .transmit) (behind queue) w)
@@ -294,7 +317,8 @@ module _ (n : ℕ) (accepts : Bool) (j : Job) (other : ℕ → ℕ) where
     }
 
     -- A WRITE to CR or SR
-    base-reset : (y y′ z z′ : Bool) (w : Wire) → Base c τ w → Base c τ (lowered y y′ (queues (emptiedIf z (w .transmit)) (emptiedIf z′ (w .receive)) w))
+    base-reset : (y y′ z z′ : Bool) (w : Wire) → Base c τ w
+        → Base c τ (lowered y y′ (queues (emptiedIf z (w .transmit)) (emptiedIf z′ (w .receive)) w))
     base-reset y y′ z z′ w B = record {
       small = B .small;
       capT = omega (arith, emptied-less z (w .transmit));
@@ -341,23 +365,34 @@ module _ (n : ℕ) (accepts : Bool) (j : Job) (other : ℕ → ℕ) where
     shown-r : (busy : Bool) (w : Wire) (g : List ℕ) → failed Rx (shows (j .exponent) busy w g SR) ≡ w .r
     shown-r busy w g = shows-r (j .exponent) busy w (getD g (placeOf SR) 0)
 
-    pub shown-transmit : (busy : Bool) (w : Wire) (g : List ℕ) → Base c τ w → readField (Fsr TXCOUNT) (shows (j .exponent) busy w g FSR) ≡ length (w .transmit)
-    shown-transmit busy w g B = shows-transmit (j .exponent) busy w (getD g (placeOf FSR) 0) (omega (arith, B .capT, capacity-small (j .exponent) small-e))
+    pub shown-transmit : (busy : Bool) (w : Wire) (g : List ℕ) → Base c τ w
+        → readField (Fsr TXCOUNT) (shows (j .exponent) busy w g FSR) ≡ length (w .transmit)
+    shown-transmit busy w g B =
+        shows-transmit (j .exponent) busy w (getD g (placeOf FSR) 0) (omega (arith, B .capT, capacity-small (j .exponent) small-e))
 
-    pub shown-receive : (busy : Bool) (w : Wire) (g : List ℕ) → Base c τ w → readField (Fsr RXCOUNT) (shows (j .exponent) busy w g FSR) ≡ length (w .receive)
-    shown-receive busy w g B = shows-receive (j .exponent) busy w (getD g (placeOf FSR) 0) (omega (arith, B .capR, capacity-small (j .exponent) small-e))
+    pub shown-receive : (busy : Bool) (w : Wire) (g : List ℕ) → Base c τ w
+        → readField (Fsr RXCOUNT) (shows (j .exponent) busy w g FSR) ≡ length (w .receive)
+    shown-receive busy w g B =
+        shows-receive (j .exponent) busy w (getD g (placeOf FSR) 0) (omega (arith, B .capR, capacity-small (j .exponent) small-e))
 
-    keep-flush : (busy : Bool) (k : Work) (q : Sequence) (f : Flush) (rs : List ℕ) (w : Wire) (g : List ℕ) → Base c τ w → NowFlush f c c m τ k rs w
+    keep-flush : (busy : Bool) (k : Work) (q : Sequence) (f : Flush) (rs : List ℕ) (w : Wire) (g : List ℕ) → Base c τ w
+        → NowFlush f c c m τ k rs w
         → Good c c m τ (stepped j busy (end (at (Ended Ok) k q) f rs w g))
     unfolding stepped dueAccess resumed
     keep-flush y k q FlushStatus rs w g B N = record {
       base = B;
       now =
           let v = shows (j .exponent) y w g SR in
-          now-flush (eqb (readField (Sr REF) v) 1) (Flushed (Err (Fifo Rx))) (cond (eqb (readField (Sr TEF) v) 1) (Flushed (Err (Fifo Tx))) (cond (eqb (readField (Sr MBF) v) 1) FlushStatus FlushSizes)) k rs w
+          now-flush (eqb (readField (Sr REF) v) 1) (Flushed (Err (Fifo Rx)))
+          (cond (eqb (readField (Sr TEF) v) 1) (Flushed (Err (Fifo Tx)))
+          (cond (eqb (readField (Sr MBF) v) 1) FlushStatus FlushSizes))
+          k rs w
           (λ h. B .setR (sym (shown-r y w g) ∙ h))
-          (λ h. now-flush (eqb (readField (Sr TEF) v) 1) (Flushed (Err (Fifo Tx))) (cond (eqb (readField (Sr MBF) v) 1) FlushStatus FlushSizes) k rs w
-          (λ h′. B .setT (sym (shown-t y w g) ∙ h′)) (λ h′. now-flush (eqb (readField (Sr MBF) v) 1) FlushStatus FlushSizes k rs w (λ h″. N) (λ h″. N)));
+          (λ h.
+          now-flush (eqb (readField (Sr TEF) v) 1) (Flushed (Err (Fifo Tx)))
+          (cond (eqb (readField (Sr MBF) v) 1) FlushStatus FlushSizes) k rs w
+          (λ h′. B .setT (sym (shown-t y w g) ∙ h′))
+          (λ h′. now-flush (eqb (readField (Sr MBF) v) 1) FlushStatus FlushSizes k rs w (λ h″. N) (λ h″. N)));
     }
     keep-flush y k q FlushSizes rs w g B N = record { base = B; now = N }
     keep-flush y k q FlushCounts rs w g B N = record {
@@ -378,36 +413,49 @@ module _ (n : ℕ) (accepts : Bool) (j : Job) (other : ℕ → ℕ) where
     keep-failed y x k q FlushCounts rs w g B N = record { base = B; now = N _ }
     keep-failed y x k q (Flushed z) rs w g B N = record { base = B; now = N _ }
 
-    keep-recovery : (busy : Bool) (d : Direction) (k : Work) (q : Sequence) (f : Flush) (rs : List ℕ) (w : Wire) (g : List ℕ) → Base c τ w → 0 < τ .flags
+    keep-recovery : (busy : Bool) (d : Direction) (k : Work) (q : Sequence) (f : Flush) (rs : List ℕ) (w : Wire) (g : List ℕ)
+        → Base c τ w → 0 < τ .flags
         → Good c c m τ (stepped j busy (end (at (Recovery d) k q) f rs w g))
     unfolding stepped dueAccess resumed
-    keep-recovery y d k q f rs w g B N = let a = firstDue (recoveryAccess q) (flushAccess f) in let v = answerTo (j .exponent) y w g a in record {
-      base =
-          subst (λ (a : Access). Base c τ (wireAfter (j .exponent) (j .words rs) a w)) (sym (quiet-first (recoveryAccess q) (flushAccess f) (recovery-quiet q)))
-          (base-quiet (j .words rs) (recoveryAccess q) w (recovery-quiet q) B);
-      now =
-          now-cond (recovered (recoveryAfter q (answerOf a v))) (Ended (Err (Fifo d))) (Recovery d) (cond (ended (recoveryAccess q)) (flushed f (answerOf a v)) f) k (receivedAfter a v rs)
-          (wireAfter (j .exponent) (j .words rs) a w) (λ h. N) (λ h. N);
-    }
+    keep-recovery y d k q f rs w g B N =
+        let a = firstDue (recoveryAccess q) (flushAccess f) in let v = answerTo (j .exponent) y w g a in record {
+          base =
+              subst (λ (a : Access). Base c τ (wireAfter (j .exponent) (j .words rs) a w))
+              (sym (quiet-first (recoveryAccess q) (flushAccess f) (recovery-quiet q)))
+              (base-quiet (j .words rs) (recoveryAccess q) w (recovery-quiet q) B);
+          now =
+              now-cond (recovered (recoveryAfter q (answerOf a v))) (Ended (Err (Fifo d))) (Recovery d)
+              (cond (ended (recoveryAccess q)) (flushed f (answerOf a v)) f) k (receivedAfter a v rs)
+              (wireAfter (j .exponent) (j .words rs) a w) (λ h. N) (λ h. N);
+        }
 
-    pub keep-step : (busy : Bool) (p : Stage) (k : Work) (q : Sequence) (f : Flush) (rs : List ℕ) (w : Wire) (g : List ℕ) → Base c τ w → At p f k rs w
+    pub keep-step : (busy : Bool) (p : Stage) (k : Work) (q : Sequence) (f : Flush) (rs : List ℕ) (w : Wire) (g : List ℕ)
+        → Base c τ w → At p f k rs w
         → Good c c m τ (stepped j busy (end (at p k q) f rs w g))
     unfolding stepped dueAccess resumed
     keep-step y (Space Status) k q f rs w g B N = record {
       base = B;
-      now = now-polled spaceBy (failed Tx (shows (j .exponent) y w g SR)) Failed (Next Sizes) f k rs w (λ h. B .setT (sym (shown-t y w g) ∙ h)) (λ h. N);
+      now =
+          now-polled spaceBy (failed Tx (shows (j .exponent) y w g SR)) Failed (Next Sizes) f k rs w
+          (λ h. B .setT (sym (shown-t y w g) ∙ h)) (λ h. N);
     }
-    keep-step y (Space Sizes) k q f rs w g B N = record { base = B; now = (N .0, N .1, shows-exponent (j .exponent) y w (getD g (placeOf PARAM) 0) small-e, N .3, N .4) }
+    keep-step y (Space Sizes) k q f rs w g B N =
+        record { base = B; now = (N .0, N .1, shows-exponent (j .exponent) y w (getD g (placeOf PARAM) 0) small-e, N .3, N .4) }
     keep-step y (Space (Counts v)) k q f rs w g B N = record {
       base = B;
-      now = now-polled spaceBy (ready Tx v (shows (j .exponent) y w g FSR)) Ready Unready f k rs w (λ h. (N .0, N .1, N .3)) (λ h. (N .0, N .1, tt, N .3, N .4));
+      now =
+          now-polled spaceBy (ready Tx v (shows (j .exponent) y w g FSR)) Ready Unready f k rs w (λ h. (N .0, N .1, N .3))
+          (λ h. (N .0, N .1, tt, N .3, N .4));
     }
     keep-step y Command k q f rs w g B N = record { base = B; now = now-send-turn f k rs w (B .small) (N .1) (N .0) }
     keep-step y (Sending Status) k q f rs w g B N = record {
       base = B;
-      now = now-polled (sendingBy k) (failed Tx (shows (j .exponent) y w g SR)) Failed (Next Sizes) f k rs w (λ h. B .setT (sym (shown-t y w g) ∙ h)) (λ h. N);
+      now =
+          now-polled (sendingBy k) (failed Tx (shows (j .exponent) y w g SR)) Failed (Next Sizes) f k rs w
+          (λ h. B .setT (sym (shown-t y w g) ∙ h)) (λ h. N);
     }
-    keep-step y (Sending Sizes) k q f rs w g B N = record { base = B; now = (N .0, N .1, shows-exponent (j .exponent) y w (getD g (placeOf PARAM) 0) small-e, N .3) }
+    keep-step y (Sending Sizes) k q f rs w g B N =
+        record { base = B; now = (N .0, N .1, shows-exponent (j .exponent) y w (getD g (placeOf PARAM) 0) small-e, N .3) }
     keep-step y (Sending (Counts v)) k q f rs w g B N = record {
       base = B;
       now =
@@ -424,7 +472,9 @@ module _ (n : ℕ) (accepts : Bool) (j : Job) (other : ℕ → ℕ) where
         })
     keep-step y (Receiving Status) k q f rs w g B N = record {
       base = B;
-      now = now-polled (receivingBy k) (failed Rx (shows (j .exponent) y w g SR)) Failed (Next Sizes) f k rs w (λ h. B .setR (sym (shown-r y w g) ∙ h)) (λ h. N);
+      now =
+          now-polled (receivingBy k) (failed Rx (shows (j .exponent) y w g SR)) Failed (Next Sizes) f k rs w
+          (λ h. B .setR (sym (shown-r y w g) ∙ h)) (λ h. N);
     }
     keep-step y (Receiving Sizes) k q f rs w g B N = record { base = B; now = N }
     keep-step y (Receiving (Counts v)) k q f rs w g B N = record {
@@ -432,11 +482,14 @@ module _ (n : ℕ) (accepts : Bool) (j : Job) (other : ℕ → ℕ) where
       now =
           let there = readField (Fsr RXCOUNT) (shows (j .exponent) y w g FSR) in
           now-polled (receivingBy k) (ready Rx v (shows (j .exponent) y w g FSR)) Ready Unready f k rs w
-          (λ h. (N .0, N .1, N .2, omega (arith, shown-receive y w g B, ltb-true 0 there h))) (λ h. now-send-turn f k rs w (B .small) (N .1) (N .0));
+          (λ h. (N .0, N .1, N .2, omega (arith, shown-receive y w g B, ltb-true 0 there h)))
+          (λ h. now-send-turn f k rs w (B .small) (N .1) (N .0));
     }
     keep-step y Receive k q f rs w g B N = record {
       base = base-receive (w .receive) w refl B;
-      now = now-receive-turn f (oneReceived k) (rs ++ (front (w .receive) ∷ [])) (queues (w .transmit) (behind (w .receive)) w) (B .small) (N .1) (core-receive k rs (w .receive) w refl (N .0) (N .2) (N .3));
+      now =
+          now-receive-turn f (oneReceived k) (rs ++ (front (w .receive) ∷ [])) (queues (w .transmit) (behind (w .receive)) w)
+          (B .small) (N .1) (core-receive k rs (w .receive) w refl (N .0) (N .2) (N .3));
     }
     keep-step y (Recovery d) k q f rs w g B N = keep-recovery y d k q f rs w g B N
     keep-step y (Ended Ok) k q f rs w g B N = keep-flush y k q f rs w g B N
@@ -454,7 +507,8 @@ module _ (n : ℕ) (accepts : Bool) (j : Job) (other : ℕ → ℕ) where
   flush-fits FlushCounts w = refl
   flush-fits (Flushed x) w = refl
 
-  pub no-overrun : (t c m : ℕ) (τ : Tally) (p : Stage) (k : Work) (q : Sequence) (f : Flush) (rs : List ℕ) (w : Wire) → Now p f t c m τ k rs w
+  pub no-overrun : (t c m : ℕ) (τ : Tally) (p : Stage) (k : Work) (q : Sequence) (f : Flush) (rs : List ℕ) (w : Wire)
+      → Now p f t c m τ k rs w
       → overrun (j .exponent) (endAccess (at p k q) f) w ≡ false
   unfolding dueAccess
   no-overrun t c m τ (Space Status) k q f rs w N = refl
@@ -470,11 +524,13 @@ module _ (n : ℕ) (accepts : Bool) (j : Job) (other : ℕ → ℕ) where
   no-overrun t c m τ (Receiving (Counts v)) k q f rs w N = refl
   no-overrun t c m τ Receive k q f rs w N = refl
   no-overrun t c m τ (Recovery d) k q f rs w N =
-      ap (λ (a : Access). overrun (j .exponent) a w) (quiet-first (recoveryAccess q) (flushAccess f) (recovery-quiet q)) ∙ quiet-fits (recoveryAccess q) w (recovery-quiet q)
+      ap (λ (a : Access). overrun (j .exponent) a w) (quiet-first (recoveryAccess q) (flushAccess f) (recovery-quiet q))
+      ∙ quiet-fits (recoveryAccess q) w (recovery-quiet q)
   no-overrun t c m τ (Ended x) k q f rs w N = flush-fits f w
 
   -- A PHASE'S FACTS STAY while the transmit queue does not grow and the receive queue does not shrink
-  flush-stays : (f : Flush) {t c m t′ c′ m′ : ℕ} {τ τ′ : Tally} {k : Work} {rs : List ℕ} {w w′ : Wire} → (Core t c m τ k rs w → Core t′ c′ m′ τ′ k rs w′)
+  flush-stays : (f : Flush) {t c m t′ c′ m′ : ℕ} {τ τ′ : Tally} {k : Work} {rs : List ℕ} {w w′ : Wire}
+      → (Core t c m τ k rs w → Core t′ c′ m′ τ′ k rs w′)
       → length (w′ .transmit) ≤ length (w .transmit) → τ .flags ≤ τ′ .flags → NowFlush f t c m τ k rs w → NowFlush f t′ c′ m′ τ′ k rs w′
   flush-stays FlushStatus g a b N = (g (N .0), N .1, N .2)
   flush-stays FlushSizes g a b N = (g (N .0), N .1, N .2)
@@ -487,7 +543,8 @@ module _ (n : ℕ) (accepts : Bool) (j : Job) (other : ℕ → ℕ) where
   flush-stays (Flushed ZeroClock) g a b N = absurd N
   flush-stays (Flushed FifoExponent) g a b N = absurd N
 
-  pub now-stays : (p : Stage) (f : Flush) {t c m t′ c′ m′ : ℕ} {τ τ′ : Tally} {k : Work} {rs : List ℕ} {w w′ : Wire} → (Core t c m τ k rs w → Core t′ c′ m′ τ′ k rs w′)
+  pub now-stays : (p : Stage) (f : Flush) {t c m t′ c′ m′ : ℕ} {τ τ′ : Tally} {k : Work} {rs : List ℕ} {w w′ : Wire}
+      → (Core t c m τ k rs w → Core t′ c′ m′ τ′ k rs w′)
       → length (w′ .transmit) ≤ length (w .transmit) → length (w .receive) ≤ length (w′ .receive) → τ .flags ≤ τ′ .flags
       → Now p f t c m τ k rs w → Now p f t′ c′ m′ τ′ k rs w′
   now-stays (Space q) f g a b d N = (g (N .0), N .1, N .2, N .3, N .4)
@@ -506,7 +563,9 @@ module _ (n : ℕ) (accepts : Bool) (j : Job) (other : ℕ → ℕ) where
   now-stays (Ended FifoExponent) f g a b d N = absurd N
 
   -- A WORD IS RECEIVED only while some are to come, in a transfer that was accepted
-  pub receives-below : (t c m : ℕ) (τ : Tally) (p : Stage) (k : Work) (q : Sequence) (f : Flush) (rs : List ℕ) (w : Wire) (i : ℕ) → Now p f t c m τ k rs w → dueAccess (at p k q) ≡ ReceiveWord i
+  pub receives-below : (t c m : ℕ) (τ : Tally) (p : Stage) (k : Work) (q : Sequence) (f : Flush)
+      (rs : List ℕ) (w : Wire) (i : ℕ)
+      → Now p f t c m τ k rs w → dueAccess (at p k q) ≡ ReceiveWord i
       → (accepts ≡ true) × (length rs < n)
   unfolding dueAccess
   receives-below t c m τ (Space Status) k q f rs w i N h = absurd (not-read h)
@@ -525,7 +584,8 @@ module _ (n : ℕ) (accepts : Bool) (j : Job) (other : ℕ → ℕ) where
   receives-below t c m τ (Ended x) k q f rs w i N h = absurd (not-done h)
 
   -- A WORD IS SENT only while some are to go, in a transfer that was accepted
-  pub sends-below : (t c m : ℕ) (τ : Tally) (p : Stage) (k : Work) (q : Sequence) (f : Flush) (rs : List ℕ) (w : Wire) (i : ℕ) → Now p f t c m τ k rs w → dueAccess (at p k q) ≡ SendWord i
+  pub sends-below : (t c m : ℕ) (τ : Tally) (p : Stage) (k : Work) (q : Sequence) (f : Flush) (rs : List ℕ) (w : Wire) (i : ℕ)
+      → Now p f t c m τ k rs w → dueAccess (at p k q) ≡ SendWord i
       → (accepts ≡ true) × (i < n)
   unfolding dueAccess place
   sends-below t c m τ (Space Status) k q f rs w i N h = absurd (read-sends h)
@@ -544,7 +604,8 @@ module _ (n : ℕ) (accepts : Bool) (j : Job) (other : ℕ → ℕ) where
   sends-below t c m τ (Ended x) k q f rs w i N h = absurd (done-sends h)
 
   -- AT FRESH: empty, accepted or refused
-  pub fresh-core : (m : ℕ) (k : Work) → accepts ≡ true → k .send ≡ n → k .receive ≡ n → k .sent ≡ 0 → k .received ≡ 0 → Core 0 0 m nothing k [] freshWire
+  pub fresh-core : (m : ℕ) (k : Work) → accepts ≡ true → k .send ≡ n → k .receive ≡ n → k .sent ≡ 0 → k .received ≡ 0
+      → Core 0 0 m nothing k [] freshWire
   fresh-core m k y a b d e = record {
     yes = y;
     toSend = a;
@@ -572,10 +633,12 @@ module _ (n : ℕ) (accepts : Bool) (j : Job) (other : ℕ → ℕ) where
 
   -- AN END THAT HAS HAD OK TWICE
   module _ (c m : ℕ) (τ : Tally) where
-    ok-now : (p : Stage) (k : Work) (q : Sequence) (f : Flush) (rs : List ℕ) (w : Wire) → dueAccess (at p k q) ≡ Done Ok → flushAccess f ≡ Done Ok → Now p f c c m τ k rs w
+    ok-now : (p : Stage) (k : Work) (q : Sequence) (f : Flush) (rs : List ℕ) (w : Wire) → dueAccess (at p k q) ≡ Done Ok
+        → flushAccess f ≡ Done Ok → Now p f c c m τ k rs w
         → NowFlush (Flushed Ok) c c m τ k rs w
     ok-now p k q f rs w hp hf N =
-        subst (λ (x : Flush). NowFlush x c c m τ k rs w) (flush-ended f hf) (subst (λ (x : Stage). Now x f c c m τ k rs w) (done-phase p k q Ok hp) N)
+        subst (λ (x : Flush). NowFlush x c c m τ k rs w) (flush-ended f hf)
+        (subst (λ (x : Stage). Now x f c c m τ k rs w) (done-phase p k q Ok hp) N)
       where
         flush-ended : (f : Flush) → flushAccess f ≡ Done Ok → f ≡ Flushed Ok
         flush-ended FlushStatus h = cc
@@ -585,7 +648,9 @@ module _ (n : ℕ) (accepts : Bool) (j : Job) (other : ℕ → ℕ) where
 
     module _ (x : End) (G : Good c c m τ x) (ok : OkTwice (seen x)) where
       pub ok-facts : NowFlush (Flushed Ok) c c m τ (x .transfer .work) (x .received) (x .wire)
-      ok-facts = ok-now (x .transfer .phase) (x .transfer .work) (x .transfer .reset) (x .flush) (x .received) (x .wire) (ok .0) (ok .1) (G .now)
+      ok-facts =
+          ok-now (x .transfer .phase) (x .transfer .work) (x .transfer .reset) (x .flush) (x .received) (x .wire)
+          (ok .0) (ok .1) (G .now)
 
       pub ok-unhurt : τ .lost + τ .madeUp ≡ 0
       ok-unhurt = let k = ok-facts in let B = G .base in omega (arith, k .0 .inEq, k .0 .outEq, k .1, k .2, k .3, B .small)

@@ -50,35 +50,44 @@ module _ (jg ja : Job) where
 not-full : (e : ℕ) (queue : List ℕ) → length queue ≡ 0 → full e queue ≡ false
 not-full e queue h = lt-leb (2 ^ e) (length queue) (omega (arith, below-capacity e))
 
-module _ (n : ℕ) (accepts : Bool) (jg ja : Job) (small-g : jg .exponent ≤ 4) (small-a : ja .exponent ≤ 4) (keeps-g : Keeps jg) (keeps-a : Keeps ja) (σ τ : Tally) where
+module _ (n : ℕ) (accepts : Bool) (jg ja : Job) (small-g : jg .exponent ≤ 4) (small-a : ja .exponent ≤ 4) (keeps-g : Keeps jg)
+    (keeps-a : Keeps ja) (σ τ : Tally) where
   abbrev Bo : ℕ → Pair → Type 0
   Bo c p = Both n accepts jg ja small-g small-a keeps-g keeps-a c σ τ p
 
   gate-steps : (i c : ℕ) (x y : End) → Bo c (pair x y) → Bo c (pair (steps jg i x) y)
   unfolding steps
   gate-steps zero c x y b = b
-  gate-steps (suc i) c x y b = gate-steps i c (stepped jg false x) y (both-gate-step n accepts jg ja small-g small-a keeps-g keeps-a c σ τ (pair x y) false b)
+  gate-steps (suc i) c x y b =
+      gate-steps i c (stepped jg false x) y
+      (both-gate-step n accepts jg ja small-g small-a keeps-g keeps-a c σ τ (pair x y) false b)
 
   antenna-steps : (i c : ℕ) (x y : End) → Bo c (pair x y) → Bo c (pair x (steps ja i y))
   unfolding steps
   antenna-steps zero c x y b = b
-  antenna-steps (suc i) c x y b = antenna-steps i c x (stepped ja false y) (both-antenna-step n accepts jg ja small-g small-a keeps-g keeps-a c σ τ (pair x y) false b)
+  antenna-steps (suc i) c x y b =
+      antenna-steps i c x (stepped ja false y)
+      (both-antenna-step n accepts jg ja small-g small-a keeps-g keeps-a c σ τ (pair x y) false b)
 
   module _ (a : accepts ≡ true) (pos-g : 0 < jg .exponent) (pos-a : 0 < ja .exponent) (calm-g : σ .flags ≡ 0) (calm-a : τ .flags ≡ 0) where
     -- both have settled: both are over, or both wait for a clock
     settled : (c : ℕ) (x y : End) → Bo c (pair x y) → Settled n c x → Settled n c y
-        → (c < n → length (x .wire .receive) ≡ 0 → length (y .wire .receive) ≡ 0 → 0 < length (x .wire .transmit) → 0 < length (y .wire .transmit) → Finishes jg ja (pair x y))
+        → (c < n → length (x .wire .receive) ≡ 0 → length (y .wire .receive) ≡ 0 → 0 < length (x .wire .transmit)
+        → 0 < length (y .wire .transmit) → Finishes jg ja (pair x y))
         → Finishes jg ja (pair x y)
     unfolding after
     settled c x y b (over h) (over h′) go = record { events = []; plain = tt; gate = h; antenna = h′ }
     settled c x y b (over h) (waits l e f) go =
-        let k = ok-facts n accepts jg (own ja) c (τ .madeUp) σ x (b .gate) h in absurd (omega (arith, k .0 .outEq, k .1, k .3, b .gate .base .madeLe))
+        let k = ok-facts n accepts jg (own ja) c (τ .madeUp) σ x (b .gate) h in
+        absurd (omega (arith, k .0 .outEq, k .1, k .3, b .gate .base .madeLe))
     settled c x y b (waits l e f) (over h) go =
-        let k = ok-facts n accepts ja (own jg) c 0 τ y (b .antenna) h in absurd (omega (arith, k .0 .outEq, k .1, k .3, b .antenna .base .madeLe))
+        let k = ok-facts n accepts ja (own jg) c 0 τ y (b .antenna) h in
+        absurd (omega (arith, k .0 .outEq, k .1, k .3, b .antenna .base .madeLe))
     settled c x y b (waits l e f) (waits l′ e′ f′) go = go l e e′ f f′
 
     -- a clock that loses nothing and makes nothing up
-    ticked : (c : ℕ) (p : Pair) (ours theirs : List ℕ) → p .gate .wire .transmit ≡ ours → p .antenna .wire .transmit ≡ theirs → 0 < length ours → 0 < length theirs
+    ticked : (c : ℕ) (p : Pair) (ours theirs : List ℕ) → p .gate .wire .transmit ≡ ours → p .antenna .wire .transmit ≡ theirs
+        → 0 < length ours → 0 < length theirs
         → length (p .gate .wire .receive) ≡ 0 → length (p .antenna .wire .receive) ≡ 0 → Bo c p → Bo (suc c) (clockedBy jg ja ours theirs p)
     ticked c p [] theirs eg ea hg ha rg ra b = absurd (omega arith)
     ticked c p (v ∷ ours) [] eg ea hg ha rg ra b = absurd (omega arith)
@@ -89,13 +98,15 @@ module _ (n : ℕ) (accepts : Bool) (jg ja : Job) (small-g : jg .exponent ≤ 4)
     gate-leads : (c : ℕ) (p : Pair) → Bo c p → Leads n c jg (p .gate)
     gate-leads c p b =
         let x = p .gate in
-        leads n accepts jg (own ja) small-g keeps-g c (τ .madeUp) σ calm-g pos-g a (x .transfer .phase) (x .flush) (x .transfer .work) (x .transfer .reset) (x .received) (x .wire) (x .registers)
+        leads n accepts jg (own ja) small-g keeps-g c (τ .madeUp) σ calm-g pos-g a (x .transfer .phase) (x .flush)
+        (x .transfer .work) (x .transfer .reset) (x .received) (x .wire) (x .registers)
         (b .gate .base) (b .gate .now)
 
     antenna-leads : (c : ℕ) (p : Pair) → Bo c p → Leads n c ja (p .antenna)
     antenna-leads c p b =
         let x = p .antenna in
-        leads n accepts ja (own jg) small-a keeps-a c 0 τ calm-a pos-a a (x .transfer .phase) (x .flush) (x .transfer .work) (x .transfer .reset) (x .received) (x .wire) (x .registers)
+        leads n accepts ja (own jg) small-a keeps-a c 0 τ calm-a pos-a a (x .transfer .phase) (x .flush) (x .transfer .work)
+        (x .transfer .reset) (x .received) (x .wire) (x .registers)
         (b .antenna .base) (b .antenna .now)
 
     -- with at most i clocks to come
@@ -108,7 +119,8 @@ module _ (n : ℕ) (accepts : Bool) (jg ja : Job) (small-g : jg .exponent ≤ 4)
         let y = steps ja (l .count) (p .antenna) in
         by-gate jg ja (k .count) (p .gate) (p .antenna)
         (by-antenna jg ja (l .count) x (p .antenna)
-        (settled c x y (antenna-steps (l .count) c x (p .antenna) (gate-steps (k .count) c (p .gate) (p .antenna) b)) (k .settled) (l .settled) (λ h a b d e. absurd (omega arith))))
+        (settled c x y (antenna-steps (l .count) c x (p .antenna) (gate-steps (k .count) c (p .gate) (p .antenna) b))
+        (k .settled) (l .settled) (λ h a b d e. absurd (omega arith))))
     finish (suc i) c p z b =
         let k = gate-leads c p b in
         let l = antenna-leads c p b in

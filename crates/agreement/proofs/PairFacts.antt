@@ -17,7 +17,8 @@ use Rattle.agreement.proofs.WordLists.{from, uncons}
 use Rattle.agreement.proofs.EndFacts.{Keeps, own, Good, keep-step, no-overrun}
 use Rattle.agreement.proofs.WireFacts.{good-noise, good-sent, good-made-up, good-arrived}
 
-module _ (n : ℕ) (accepts : Bool) (jg ja : Job) (small-g : jg .exponent ≤ 4) (small-a : ja .exponent ≤ 4) (keeps-g : Keeps jg) (keeps-a : Keeps ja) where
+module _ (n : ℕ) (accepts : Bool) (jg ja : Job) (small-g : jg .exponent ≤ 4) (small-a : ja .exponent ≤ 4) (keeps-g : Keeps jg)
+    (keeps-a : Keeps ja) where
   abbrev GoodGate : ℕ → ℕ → ℕ → Tally → End → Type 0
   GoodGate = Good n accepts jg (own ja)
 
@@ -34,8 +35,10 @@ module _ (n : ℕ) (accepts : Bool) (jg ja : Job) (small-g : jg .exponent ≤ 4)
   more-to-clock c σ τ p v queue e b = omega (arith, ap length e, b .gate .base .room, b .clean)
 
   -- a word each way
-  pub both-clocked : (c : ℕ) (σ τ : Tally) (p : Pair) (v u : ℕ) (ours theirs : List ℕ) → p .gate .wire .transmit ≡ v ∷ ours → p .antenna .wire .transmit ≡ u ∷ theirs → Both c σ τ p
-      → Both (suc c) (noted (full (jg .exponent) (p .gate .wire .receive)) false false σ) (noted (full (ja .exponent) (p .antenna .wire .receive)) false false τ) (clockedBy jg ja (v ∷ ours) (u ∷ theirs) p)
+  pub both-clocked : (c : ℕ) (σ τ : Tally) (p : Pair) (v u : ℕ) (ours theirs : List ℕ) → p .gate .wire .transmit ≡ v ∷ ours
+      → p .antenna .wire .transmit ≡ u ∷ theirs → Both c σ τ p
+      → Both (suc c) (noted (full (jg .exponent) (p .gate .wire .receive)) false false σ)
+      (noted (full (ja .exponent) (p .antenna .wire .receive)) false false τ) (clockedBy jg ja (v ∷ ours) (u ∷ theirs) p)
   unfolding clockedBy
   both-clocked c σ τ p v u ours theirs eg ea b =
       let l = more-to-clock c σ τ p v ours eg b in
@@ -51,9 +54,11 @@ module _ (n : ℕ) (accepts : Bool) (jg ja : Job) (small-g : jg .exponent ≤ 4)
         clean = b .clean;
       }
 
-  both-clock : (c : ℕ) (σ τ : Tally) (p : Pair) (ours theirs : List ℕ) → p .gate .wire .transmit ≡ ours → p .antenna .wire .transmit ≡ theirs → Both c σ τ p
+  both-clock : (c : ℕ) (σ τ : Tally) (p : Pair) (ours theirs : List ℕ) → p .gate .wire .transmit ≡ ours
+      → p .antenna .wire .transmit ≡ theirs → Both c σ τ p
       → (c′ : ℕ) × Both c′ (noted (waiting ours && full (jg .exponent) (p .gate .wire .receive)) false false σ)
-      (noted (waiting ours && full (ja .exponent) (p .antenna .wire .receive)) (waiting ours && not (waiting theirs)) false τ) (clockedBy jg ja ours theirs p)
+      (noted (waiting ours && full (ja .exponent) (p .antenna .wire .receive)) (waiting ours && not (waiting theirs)) false τ)
+      (clockedBy jg ja ours theirs p)
   unfolding clockedBy
   both-clock c σ τ p [] theirs eg ea b = (c, b)
   both-clock c σ τ p (v ∷ ours) [] eg ea b =
@@ -65,39 +70,63 @@ module _ (n : ℕ) (accepts : Bool) (jg ja : Job) (small-g : jg .exponent ≤ 4)
               (good-sent n accepts jg (own ja) c (τ .madeUp) σ (p .gate) v ours eg l (b .gate));
           antenna =
               good-arrived n accepts ja (own jg) c 0 (noted false true false τ) _ v 0 (omega arith)
-              (λ h. uncons (own jg) c v ours (subst (λ (q : List ℕ). q ≡ from (own jg) c (length q)) eg (b .gate .base .txIs (b .clean))) .0)
+              (λ h.
+              uncons (own jg) c v ours
+              (subst (λ (q : List ℕ). q ≡ from (own jg) c (length q)) eg (b .gate .base .txIs (b .clean))) .0)
               (good-made-up n accepts ja (own jg) c 0 τ (p .antenna) ea l (b .antenna));
           clean = b .clean;
         },
       )
   both-clock c σ τ p (v ∷ ours) (u ∷ theirs) eg ea b = (suc c, both-clocked c σ τ p v u ours theirs eg ea b)
 
-  pub both-gate-step : (c : ℕ) (σ τ : Tally) (p : Pair) (busy : Bool) → Both c σ τ p → Both c σ τ (pair (stepped jg busy (p .gate)) (p .antenna))
+  pub both-gate-step : (c : ℕ) (σ τ : Tally) (p : Pair) (busy : Bool) → Both c σ τ p
+      → Both c σ τ (pair (stepped jg busy (p .gate)) (p .antenna))
   both-gate-step c σ τ p busy b = let x = p .gate in record {
-    gate = keep-step n accepts jg (own ja) small-g keeps-g c (τ .madeUp) σ busy (x .transfer .phase) (x .transfer .work) (x .transfer .reset) (x .flush) (x .received) (x .wire) (x .registers) (b .gate .base) (b .gate .now);
+    gate =
+        keep-step n accepts jg (own ja) small-g keeps-g c (τ .madeUp) σ busy (x .transfer .phase) (x .transfer .work)
+        (x .transfer .reset) (x .flush) (x .received) (x .wire) (x .registers) (b .gate .base) (b .gate .now);
     antenna = b .antenna;
     clean = b .clean;
   }
 
-  pub both-antenna-step : (c : ℕ) (σ τ : Tally) (p : Pair) (busy : Bool) → Both c σ τ p → Both c σ τ (pair (p .gate) (stepped ja busy (p .antenna)))
+  pub both-antenna-step : (c : ℕ) (σ τ : Tally) (p : Pair) (busy : Bool) → Both c σ τ p
+      → Both c σ τ (pair (p .gate) (stepped ja busy (p .antenna)))
   both-antenna-step c σ τ p busy b = let x = p .antenna in record {
     gate = b .gate;
-    antenna = keep-step n accepts ja (own jg) small-a keeps-a c 0 τ busy (x .transfer .phase) (x .transfer .work) (x .transfer .reset) (x .flush) (x .received) (x .wire) (x .registers) (b .antenna .base) (b .antenna .now);
+    antenna =
+        keep-step n accepts ja (own jg) small-a keeps-a c 0 τ busy (x .transfer .phase) (x .transfer .work) (x .transfer .reset)
+        (x .flush) (x .received) (x .wire) (x .registers) (b .antenna .base) (b .antenna .now);
     clean = b .clean;
   }
 
   -- EVERY EVENT
-  both-event : (c : ℕ) (σ τ : Tally) (p : Pair) (v : Event) → Both c σ τ p → (c′ : ℕ) × Both c′ (gateNotes jg ja p v σ) (antennaNotes jg ja p v τ) (happened jg ja p v)
+  both-event : (c : ℕ) (σ τ : Tally) (p : Pair) (v : Event) → Both c σ τ p
+      → (c′ : ℕ) × Both c′ (gateNotes jg ja p v σ) (antennaNotes jg ja p v τ) (happened jg ja p v)
   unfolding happened
   both-event c σ τ p (Step Gate busy) b =
-      let x = p .gate in
-      (c, rw (no-overrun n accepts jg (own ja) c c (τ .madeUp) σ (x .transfer .phase) (x .transfer .work) (x .transfer .reset) (x .flush) (x .received) (x .wire) (b .gate .now)) (both-gate-step c σ τ p busy b))
+      let x = p .gate in (
+        c,
+        rw
+            (no-overrun n accepts jg (own ja) c c (τ .madeUp) σ (x .transfer .phase) (x .transfer .work) (x .transfer .reset)
+            (x .flush) (x .received) (x .wire) (b .gate .now))
+            (both-gate-step c σ τ p busy b),
+      )
   both-event c σ τ p (Step Antenna busy) b =
-      let x = p .antenna in
-      (c, rw (no-overrun n accepts ja (own jg) c c 0 τ (x .transfer .phase) (x .transfer .work) (x .transfer .reset) (x .flush) (x .received) (x .wire) (b .antenna .now)) (both-antenna-step c σ τ p busy b))
+      let x = p .antenna in (
+        c,
+        rw
+            (no-overrun n accepts ja (own jg) c c 0 τ (x .transfer .phase) (x .transfer .work) (x .transfer .reset) (x .flush)
+            (x .received) (x .wire) (b .antenna .now))
+            (both-antenna-step c σ τ p busy b),
+      )
   both-event c σ τ p Clock b = both-clock c σ τ p (p .gate .wire .transmit) (p .antenna .wire .transmit) refl refl b
-  both-event c σ τ p (Noise Gate d) b = (c, record { gate = good-noise n accepts jg (own ja) c (τ .madeUp) σ (p .gate) d (b .gate); antenna = b .antenna; clean = b .clean })
-  both-event c σ τ p (Noise Antenna d) b = (c, record { gate = b .gate; antenna = good-noise n accepts ja (own jg) c 0 τ (p .antenna) d (b .antenna); clean = b .clean })
+  both-event c σ τ p (Noise Gate d) b = (
+    c,
+    record
+        { gate = good-noise n accepts jg (own ja) c (τ .madeUp) σ (p .gate) d (b .gate); antenna = b .antenna; clean = b .clean },
+  )
+  both-event c σ τ p (Noise Antenna d) b =
+      (c, record { gate = b .gate; antenna = good-noise n accepts ja (own jg) c 0 τ (p .antenna) d (b .antenna); clean = b .clean })
 
   -- EVERY LIST
   pub both-after : (c : ℕ) (σ τ : Tally) (p : Pair) (vs : List Event) → Both c σ τ p

@@ -10,15 +10,19 @@ use Rattle.manual.specs.declared.Register.the-variants.{SR}
 use Rattle.sequences.specs.declared.access.Access.{Access}
 use Rattle.sequences.specs.declared.access.Access.the-variants.{Read, Write, Send, Receive, Done}
 use Rattle.sequences.specs.declared.sequence.Change.{Change}
-use Rattle.sequences.specs.declared.sequence.Change.the-variants.{Reset, Release, ClearFifos, ClearFifo, Enable, Restore, Controller, HalfFull, Watermark, Sample, Peripheral, Polarity}
+use Rattle.sequences.specs.declared.sequence.Change.the-variants.{Reset, Release, ClearFifos, ClearFifo, Enable, Restore, Controller}
+use Rattle.sequences.specs.declared.sequence.Change.the-variants.{HalfFull, Watermark, Sample, Peripheral, Polarity}
 use Rattle.sequences.specs.declared.sequence.Move.{Move}
-use Rattle.sequences.specs.declared.sequence.Move.the-variants.{Keep, KeepClock, Look, Wait, WaitClock, Size, Arrived, Modify, Set, Write as WriteWord, Put, End}
+use Rattle.sequences.specs.declared.sequence.Move.the-variants.{Keep, KeepClock, Look, Wait, WaitClock, Size, Arrived}
+use Rattle.sequences.specs.declared.sequence.Move.the-variants.{Modify, Set, Write as WriteWord, Put, End}
 use Rattle.sequences.specs.declared.sequence.Sequence.{Sequence}
 use Rattle.sequences.specs.Recovery.{recovery, recoveryMove, recoveryAccess}
 use Rattle.sequences.specs.Sequence.{moveAccess, changeRegister}
 use Rattle.sequences.specs.Status.{cleared, errors}
 use Rattle.agreement.specs.declared.register.Role.{Role}
-use Rattle.agreement.specs.declared.register.Role.the-variants.{Sizes as sizes, Status as status, Counts as counts, Control as control, Sends as sends, Receives as receives, Holds as holds}
+use Rattle.agreement.specs.declared.register.Role.the-variants.{Sizes as sizes, Status as status, Counts as counts}
+use Rattle.agreement.specs.declared.register.Role.the-variants.{Control as control, Sends as sends, Receives as receives}
+use Rattle.agreement.specs.declared.register.Role.the-variants.{Holds as holds}
 use Rattle.agreement.specs.End.{roleOf}
 
 -- a write to a register of that role sends nothing
@@ -103,4 +107,5 @@ last-quiet = tt
 
 -- EVERY ACCESS OF THE RECOVERY
 pub recovery-quiet : (s : Sequence) → Quiet (recoveryAccess s)
-recovery-quiet s = move-quiet (recoveryMove (s .place)) s (quiet-at recovery (WriteWord SR (cleared errors)) (s .place) table-quiet last-quiet)
+recovery-quiet s =
+    move-quiet (recoveryMove (s .place)) s (quiet-at recovery (WriteWord SR (cleared errors)) (s .place) table-quiet last-quiet)

@@ -1,6 +1,5 @@
--- An end that no flag was ever set at settles: some steps of its own, never busy, bring it to Ok twice, or to where it has nothing to take and a word
--- to send, and waits for a clock.
--- Assumes nothing.
+-- An end that no flag was ever set at settles: some steps of its own, never busy, bring it to Ok twice, or to where it has nothing to take
+-- and a word to send, and waits for a clock. Assumes nothing.
 use Prim.Native.Nat.{ℕ, zero, suc, _+_, _^_, _<_, _≤_}
 use mathlib.Core.Bool.{Bool, true, false, cond}
 use mathlib.Core.List.{List, [], _∷_, _++_}
@@ -18,7 +17,8 @@ use Rattle.words.specs.declared.transaction.LpspiError.the-variants.{FrameSize,
 use Rattle.sequences.specs.declared.access.Access.the-variants.{Write}
 use Rattle.sequences.specs.declared.access.Ending.the-variants.{Ok, Err, Stopped, Limits, ZeroClock, FifoExponent}
 use Rattle.machine.specs.declared.flush.Flush.{Flush}
-use Rattle.machine.specs.declared.flush.Flush.the-variants.{Status as FlushStatus, Sizes as FlushSizes, Counts as FlushCounts, Ended as Flushed}
+use Rattle.machine.specs.declared.flush.Flush.the-variants.{Status as FlushStatus, Sizes as FlushSizes, Counts as FlushCounts}
+use Rattle.machine.specs.declared.flush.Flush.the-variants.{Ended as Flushed}
 use Rattle.machine.specs.declared.poll.Poll.the-variants.{Status, Sizes, Counts}
 use Rattle.sequences.specs.declared.sequence.Sequence.{Sequence}
 use Rattle.machine.specs.declared.transfer.Stage.{Stage}
@@ -32,7 +32,8 @@ use Rattle.agreement.specs.Tally.{Tally}
 use Rattle.agreement.specs.Agreement.{OkTwice, seen}
 use Rattle.agreement.proofs.ShownLaws.{shows-t, shows-r, shows-busy, shows-exponent, below-capacity}
 use Rattle.agreement.proofs.WordLists.{length-snoc, length-behind}
-use Rattle.agreement.proofs.EndFacts.{Keeps, Core, Now, NowFlush, Base, shown-transmit, shown-receive, pushed, core-send, base-send, core-receive, base-receive}
+use Rattle.agreement.proofs.EndFacts.{Keeps, Core, Now, NowFlush, Base, shown-transmit, shown-receive}
+use Rattle.agreement.proofs.EndFacts.{pushed, core-send, base-send, core-receive, base-receive}
 
 -- steps of one end alone, never busy
 unfoldable pub steps : Job → ℕ → End → End
@@ -55,7 +56,8 @@ calm-flag false flags f h = refl
 refused : {a : Bool} → a ≡ true → a ≡ false → ⊥
 refused h h′ = let z : _≡_ {A = ℕ} 0 1 = cc in omega arith
 
-module _ (n : ℕ) (accepts : Bool) (j : Job) (other : ℕ → ℕ) (small-e : j .exponent ≤ 4) (keeps : Keeps j) (c m : ℕ) (τ : Tally) (calm : τ .flags ≡ 0) where
+module _ (n : ℕ) (accepts : Bool) (j : Job) (other : ℕ → ℕ) (small-e : j .exponent ≤ 4) (keeps : Keeps j) (c m : ℕ) (τ : Tally)
+    (calm : τ .flags ≡ 0) where
   abbrev L : End → Type 0
   L = Leads n c j
 
@@ -71,7 +73,8 @@ module _ (n : ℕ) (accepts : Bool) (j : Job) (other : ℕ → ℕ) (small-e : j
 
   step-to : {x y : End} → stepped j false x ≡ y → L y → L x
   unfolding steps
-  step-to {x} e l = let k : L (stepped j false x) = subst (λ (z : End). L z) (sym e) l in record { count = suc (k .count); settled = k .settled }
+  step-to {x} e l =
+      let k : L (stepped j false x) = subst (λ (z : End). L z) (sym e) l in record { count = suc (k .count); settled = k .settled }
 
   -- SINGLE STEPS, each from its phase to the next
   module _ (k : Work) (q : Sequence) (rs : List ℕ) (w : Wire) (g : List ℕ) (B : Bs w) where
@@ -106,7 +109,13 @@ module _ (n : ℕ) (accepts : Bool) (j : Job) (other : ℕ → ℕ) (small-e : j
 
     go-space-counts : (v : ℕ) → length (w .transmit) < readField (Param TXFIFO) v → L (on Command) → L (on (Space (Counts v)))
     unfolding stepped dueAccess resumed
-    go-space-counts v h l = step-to (rw (shown-transmit n accepts j other small-e keeps c m τ false w g B, lt-ltb (length (w .transmit)) (readField (Param TXFIFO) v) h)) l
+    go-space-counts v h l =
+        step-to
+        (rw (
+          shown-transmit n accepts j other small-e keeps c m τ false w g B,
+          lt-ltb (length (w .transmit)) (readField (Param TXFIFO) v) h,
+        ))
+        l
 
     go-command : L (end (at (sendTurn k) k q) FlushStatus rs w (registersAfter (j .words rs) (Write TCR (k .command)) g)) → L (on Command)
     unfolding stepped dueAccess resumed
@@ -122,13 +131,27 @@ module _ (n : ℕ) (accepts : Bool) (j : Job) (other : ℕ → ℕ) (small-e : j
 
     go-sending-ready : (v : ℕ) → length (w .transmit) < readField (Param TXFIFO) v → L (on Send) → L (on (Sending (Counts v)))
     unfolding stepped dueAccess resumed
-    go-sending-ready v h l = step-to (rw (shown-transmit n accepts j other small-e keeps c m τ false w g B, lt-ltb (length (w .transmit)) (readField (Param TXFIFO) v) h)) l
+    go-sending-ready v h l =
+        step-to
+        (rw (
+          shown-transmit n accepts j other small-e keeps c m τ false w g B,
+          lt-ltb (length (w .transmit)) (readField (Param TXFIFO) v) h,
+        ))
+        l
 
     go-sending-unready : (v : ℕ) → readField (Param TXFIFO) v ≤ length (w .transmit) → L (on (receiveTurn k)) → L (on (Sending (Counts v)))
     unfolding stepped dueAccess resumed
-    go-sending-unready v h l = step-to (rw (shown-transmit n accepts j other small-e keeps c m τ false w g B, le-ltb (length (w .transmit)) (readField (Param TXFIFO) v) h)) l
+    go-sending-unready v h l =
+        step-to
+        (rw (
+          shown-transmit n accepts j other small-e keeps c m τ false w g B,
+          le-ltb (length (w .transmit)) (readField (Param TXFIFO) v) h,
+        ))
+        l
 
-    go-send : length (w .transmit) < j .exponent → L (end (at (sendTurn (oneSent k)) (oneSent k) q) FlushStatus rs (pushed n accepts j other small-e keeps c m τ rs k w) g) → L (on Send)
+    go-send : length (w .transmit) < j .exponent
+        → L (end (at (sendTurn (oneSent k)) (oneSent k) q) FlushStatus rs (pushed n accepts j other small-e keeps c m τ rs k w) g)
+        → L (on Send)
     unfolding stepped dueAccess resumed
     go-send h l = step-to (rw (lt-leb (2 ^ j .exponent) (length (w .transmit)) (omega (arith, below-capacity (j .exponent))))) l
 
@@ -142,13 +165,19 @@ module _ (n : ℕ) (accepts : Bool) (j : Job) (other : ℕ → ℕ) (small-e : j
 
     go-receiving-ready : (v : ℕ) → 0 < length (w .receive) → L (on Receive) → L (on (Receiving (Counts v)))
     unfolding stepped dueAccess resumed
-    go-receiving-ready v h l = step-to (rw (shown-receive n accepts j other small-e keeps c m τ false w g B, lt-ltb 0 (length (w .receive)) h)) l
+    go-receiving-ready v h l =
+        step-to (rw (shown-receive n accepts j other small-e keeps c m τ false w g B, lt-ltb 0 (length (w .receive)) h)) l
 
     go-receiving-unready : (v : ℕ) → length (w .receive) ≡ 0 → L (on (sendTurn k)) → L (on (Receiving (Counts v)))
     unfolding stepped dueAccess resumed
-    go-receiving-unready v h l = step-to (rw (shown-receive n accepts j other small-e keeps c m τ false w g B, le-ltb 0 (length (w .receive)) (omega (arith, h)))) l
+    go-receiving-unready v h l =
+        step-to
+        (rw (shown-receive n accepts j other small-e keeps c m τ false w g B, le-ltb 0 (length (w .receive)) (omega (arith, h)))) l
 
-    go-receive : L (end (at (receiveTurn (oneReceived k)) (oneReceived k) q) FlushStatus (rs ++ (front (w .receive) ∷ [])) (queues (w .transmit) (behind (w .receive)) w) g) → L (on Receive)
+    go-receive : L
+        (end (at (receiveTurn (oneReceived k)) (oneReceived k) q) FlushStatus (rs ++ (front (w .receive) ∷ []))
+        (queues (w .transmit) (behind (w .receive)) w) g)
+        → L (on Receive)
     unfolding stepped dueAccess resumed
     go-receive l = step-to refl l
 
@@ -156,7 +185,15 @@ module _ (n : ℕ) (accepts : Bool) (j : Job) (other : ℕ → ℕ) (small-e : j
     unfolding stepped dueAccess resumed
     go-flush-status l =
         let held = getD g (placeOf SR) 0 in
-        step-to (rw (shows-r (j .exponent) false w held, shows-t (j .exponent) false w held, shows-busy (j .exponent) false w held, r-off, t-off)) l
+        step-to
+        (rw (
+          shows-r (j .exponent) false w held,
+          shows-t (j .exponent) false w held,
+          shows-busy (j .exponent) false w held,
+          r-off,
+          t-off,
+        ))
+        l
 
     go-flush-sizes : L (flushing FlushCounts) → L (flushing FlushSizes)
     unfolding stepped dueAccess resumed
@@ -164,12 +201,15 @@ module _ (n : ℕ) (accepts : Bool) (j : Job) (other : ℕ → ℕ) (small-e : j
 
     go-flush-counts : length (w .transmit) ≡ 0 → L (flushing (Flushed Ok)) → L (flushing FlushCounts)
     unfolding stepped dueAccess resumed
-    go-flush-counts h l = step-to (rw (shown-transmit n accepts j other small-e keeps c m τ false w g B, eq-eqb (length (w .transmit)) 0 h)) l
+    go-flush-counts h l =
+        step-to (rw (shown-transmit n accepts j other small-e keeps c m τ false w g B, eq-eqb (length (w .transmit)) 0 h)) l
 
     -- FLUSH: nothing is queued any more
     flush-counts : Cr k rs w → k .sent ≡ n → length rs ≡ n → L (flushing FlushCounts)
     unfolding dueAccess
-    flush-counts x hs hr = go-flush-counts (omega (arith, x .inEq, x .outEq, B .small, B .madeLe, calm)) (here (flushing (Flushed Ok)) (over (refl, refl)))
+    flush-counts x hs hr =
+        go-flush-counts (omega (arith, x .inEq, x .outEq, B .small, B .madeLe, calm))
+        (here (flushing (Flushed Ok)) (over (refl, refl)))
 
     flush-status : Cr k rs w → k .sent ≡ n → length rs ≡ n → L (flushing FlushStatus)
     flush-status x hs hr = go-flush-status (go-flush-sizes (flush-counts x hs hr))
@@ -178,10 +218,24 @@ module _ (n : ℕ) (accepts : Bool) (j : Job) (other : ℕ → ℕ) (small-e : j
     turn-receive : Cr k rs w → (length rs < n → L (on (Receiving Status))) → L (on (receiveTurn k))
     turn-receive x go = by-tests (ltb (k .received) (k .receive)) (ltb (k .sent) (k .send)) refl refl
       where
-        by-tests : (y z : Bool) → ltb (k .received) (k .receive) ≡ y → ltb (k .sent) (k .send) ≡ z → L (on (cond y (Receiving Status) (cond z (Sending Status) (Ended Ok))))
+        by-tests : (y z : Bool) → ltb (k .received) (k .receive) ≡ y → ltb (k .sent) (k .send) ≡ z
+            → L (on (cond y (Receiving Status) (cond z (Sending Status) (Ended Ok))))
         by-tests true z h h′ = go (omega (arith, ltb-true (k .received) (k .receive) h, x .taken, x .toReceive))
         by-tests false true h h′ =
-            absurd (omega (arith, ltb-false (k .received) (k .receive) h, ltb-true (k .sent) (k .send) h′, x .taken, x .toReceive, x .toSend, x .inEq, x .outEq, B .small, B .madeLe, calm))
+            absurd
+            (omega (
+              arith,
+              ltb-false (k .received) (k .receive) h,
+              ltb-true (k .sent) (k .send) h′,
+              x .taken,
+              x .toReceive,
+              x .toSend,
+              x .inEq,
+              x .outEq,
+              B .small,
+              B .madeLe,
+              calm,
+            ))
         by-tests false false h h′ =
             flush-status x (omega (arith, ltb-false (k .sent) (k .send) h′, x .toSend, x .most))
             (omega (arith, ltb-false (k .received) (k .receive) h, x .taken, x .toReceive, x .inEq, B .small))
@@ -189,7 +243,8 @@ module _ (n : ℕ) (accepts : Bool) (j : Job) (other : ℕ → ℕ) (small-e : j
     turn-send : Cr k rs w → (k .sent < n → L (on (Sending Status))) → (length rs < n → L (on (Receiving Status))) → L (on (sendTurn k))
     turn-send x go go′ = by-tests (ltb (k .sent) (k .send)) (ltb (k .received) (k .receive)) refl refl
       where
-        by-tests : (y z : Bool) → ltb (k .sent) (k .send) ≡ y → ltb (k .received) (k .receive) ≡ z → L (on (cond y (Sending Status) (cond z (Receiving Status) (Ended Ok))))
+        by-tests : (y z : Bool) → ltb (k .sent) (k .send) ≡ y → ltb (k .received) (k .receive) ≡ z
+            → L (on (cond y (Sending Status) (cond z (Receiving Status) (Ended Ok))))
         by-tests true z h h′ = go (omega (arith, ltb-true (k .sent) (k .send) h, x .toSend))
         by-tests false true h h′ = go′ (omega (arith, ltb-true (k .received) (k .receive) h′, x .taken, x .toReceive))
         by-tests false false h h′ =
@@ -206,14 +261,16 @@ module _ (n : ℕ) (accepts : Bool) (j : Job) (other : ℕ → ℕ) (small-e : j
         (here (end (at (sendTurn (oneSent k)) (oneSent k) q) FlushStatus rs (pushed n accepts j other small-e keeps c m τ rs k w) g)
         (waits l hr (omega (arith, length-snoc (w .transmit) (j .words rs (k .sent)))))))))
 
-    receiving-counts : (v : ℕ) → 0 < j .exponent → Cr k rs w → length rs < n → (0 < length (w .receive) → L (on Receive)) → L (on (Receiving (Counts v)))
+    receiving-counts : (v : ℕ) → 0 < j .exponent → Cr k rs w → length rs < n → (0 < length (w .receive) → L (on Receive))
+        → L (on (Receiving (Counts v)))
     receiving-counts v pos x l go = by-tests (ltb 0 (length (w .receive))) (ltb 0 (length (w .transmit))) refl refl
       where
         by-tests : (y z : Bool) → ltb 0 (length (w .receive)) ≡ y → ltb 0 (length (w .transmit)) ≡ z → L (on (Receiving (Counts v)))
         by-tests true z h h′ = let a = ltb-true 0 (length (w .receive)) h in go-receiving-ready v a (go a)
         by-tests false true h h′ =
             here (on (Receiving (Counts v)))
-            (waits (omega (arith, ltb-false 0 (length (w .receive)) h, x .inEq, B .lostLe, calm)) (omega (arith, ltb-false 0 (length (w .receive)) h)) (ltb-true 0 (length (w .transmit)) h′))
+            (waits (omega (arith, ltb-false 0 (length (w .receive)) h, x .inEq, B .lostLe, calm))
+            (omega (arith, ltb-false 0 (length (w .receive)) h)) (ltb-true 0 (length (w .transmit)) h′))
         by-tests false false h h′ =
             let a : length (w .receive) ≡ 0 = omega (arith, ltb-false 0 (length (w .receive)) h) in
             let b : length (w .transmit) ≡ 0 = omega (arith, ltb-false 0 (length (w .transmit)) h′) in
@@ -221,12 +278,14 @@ module _ (n : ℕ) (accepts : Bool) (j : Job) (other : ℕ → ℕ) (small-e : j
             let e : sendTurn k ≡ Sending Status = rw (lt-ltb (k .sent) (k .send) (omega (arith, x .toSend, x .outEq, B .madeLe, calm))) in
             go-receiving-unready v a (subst (λ (p : Stage). L (on p)) (sym e) (kick pos a b l′))
 
-    sending-counts : (v : ℕ) → Cr k rs w → readField (Param TXFIFO) v ≡ j .exponent → (length (w .transmit) < j .exponent → L (on Send)) → (length rs < n → L (on (Receiving Status)))
+    sending-counts : (v : ℕ) → Cr k rs w → readField (Param TXFIFO) v ≡ j .exponent
+        → (length (w .transmit) < j .exponent → L (on Send)) → (length rs < n → L (on (Receiving Status)))
         → L (on (Sending (Counts v)))
     sending-counts v x e go go′ = by-test (ltb (length (w .transmit)) (readField (Param TXFIFO) v)) refl
       where
         by-test : (y : Bool) → ltb (length (w .transmit)) (readField (Param TXFIFO) v) ≡ y → L (on (Sending (Counts v)))
-        by-test true h = let a = ltb-true (length (w .transmit)) (readField (Param TXFIFO) v) h in go-sending-ready v a (go (omega (arith, e)))
+        by-test true h =
+            let a = ltb-true (length (w .transmit)) (readField (Param TXFIFO) v) h in go-sending-ready v a (go (omega (arith, e)))
         by-test false h = go-sending-unready v (ltb-false (length (w .transmit)) (readField (Param TXFIFO) v) h) (turn-receive x go′)
 
   module _ (pos : 0 < j .exponent) where
@@ -234,9 +293,12 @@ module _ (n : ℕ) (accepts : Bool) (j : Job) (other : ℕ → ℕ) (small-e : j
     run-on k q rs w g p = end (at p k q) FlushStatus rs w g
 
     -- from the receiving side's poll, with at most i words to take
-    receiving : (i : ℕ) (k : Work) (q : Sequence) (rs : List ℕ) (w : Wire) (g : List ℕ) → length (w .receive) ≤ i → Bs w → Cr k rs w → length rs < n → L (run-on k q rs w g (Receiving Status))
+    receiving : (i : ℕ) (k : Work) (q : Sequence) (rs : List ℕ) (w : Wire) (g : List ℕ) → length (w .receive) ≤ i → Bs w
+        → Cr k rs w → length rs < n → L (run-on k q rs w g (Receiving Status))
     receiving zero k q rs w g z B x l =
-        go-receiving-status k q rs w g B (go-receiving-sizes k q rs w g B (receiving-counts k q rs w g B (param k q rs w g B) pos x l (λ h. absurd (omega arith))))
+        go-receiving-status k q rs w g B
+        (go-receiving-sizes k q rs w g B
+        (receiving-counts k q rs w g B (param k q rs w g B) pos x l (λ h. absurd (omega arith))))
     receiving (suc i) k q rs w g z B x l =
         go-receiving-status k q rs w g B
         (go-receiving-sizes k q rs w g B
@@ -246,57 +308,79 @@ module _ (n : ℕ) (accepts : Bool) (j : Job) (other : ℕ → ℕ) (small-e : j
         let x′ = core-receive n accepts j other small-e keeps c m τ k rs (w .receive) w refl x l h in
         go-receive k q rs w g B
         (turn-receive (oneReceived k) q (rs ++ (front (w .receive) ∷ [])) (queues (w .transmit) (behind (w .receive)) w) g B′ x′
-        (λ l′. receiving i (oneReceived k) q (rs ++ (front (w .receive) ∷ [])) (queues (w .transmit) (behind (w .receive)) w) g (omega (arith, length-behind (w .receive))) B′ x′ l′)))))
+        (λ l′.
+        receiving i (oneReceived k) q (rs ++ (front (w .receive) ∷ [])) (queues (w .transmit) (behind (w .receive)) w) g
+        (omega (arith, length-behind (w .receive))) B′ x′ l′))
+        )))
 
-    received : (k : Work) (q : Sequence) (rs : List ℕ) (w : Wire) (g : List ℕ) → Bs w → Cr k rs w → length rs < n → 0 < length (w .receive) → L (run-on k q rs w g Receive)
+    received : (k : Work) (q : Sequence) (rs : List ℕ) (w : Wire) (g : List ℕ) → Bs w → Cr k rs w → length rs < n
+        → 0 < length (w .receive) → L (run-on k q rs w g Receive)
     received k q rs w g B x l h =
         let B′ = base-receive n accepts j other small-e keeps c m τ (w .receive) w refl B in
         let x′ = core-receive n accepts j other small-e keeps c m τ k rs (w .receive) w refl x l h in
         go-receive k q rs w g B
         (turn-receive (oneReceived k) q (rs ++ (front (w .receive) ∷ [])) (queues (w .transmit) (behind (w .receive)) w) g B′ x′
-        (λ l′. receiving (length (w .receive)) (oneReceived k) q (rs ++ (front (w .receive) ∷ [])) (queues (w .transmit) (behind (w .receive)) w) g (omega (arith, length-behind (w .receive))) B′ x′ l′))
+        (λ l′.
+        receiving (length (w .receive)) (oneReceived k) q (rs ++ (front (w .receive) ∷ []))
+        (queues (w .transmit) (behind (w .receive)) w) g (omega (arith, length-behind (w .receive))) B′ x′ l′))
 
-    receiving-any : (k : Work) (q : Sequence) (rs : List ℕ) (w : Wire) (g : List ℕ) → Bs w → Cr k rs w → length rs < n → L (run-on k q rs w g (Receiving Status))
+    receiving-any : (k : Work) (q : Sequence) (rs : List ℕ) (w : Wire) (g : List ℕ) → Bs w → Cr k rs w → length rs < n
+        → L (run-on k q rs w g (Receiving Status))
     receiving-any k q rs w g B x l = receiving (length (w .receive)) k q rs w g (omega arith) B x l
 
     -- a word goes, and its sender has the turn again
-    sent-then : (k : Work) (q : Sequence) (rs : List ℕ) (w : Wire) (g : List ℕ) → Bs w → Cr k rs w → k .sent < n → length (w .transmit) < j .exponent
-        → (counted (k .sent) (k .send) < n → Bs (pushed n accepts j other small-e keeps c m τ rs k w) → Cr (oneSent k) rs (pushed n accepts j other small-e keeps c m τ rs k w)
+    sent-then : (k : Work) (q : Sequence) (rs : List ℕ) (w : Wire) (g : List ℕ) → Bs w → Cr k rs w → k .sent < n
+        → length (w .transmit) < j .exponent
+        → (counted (k .sent) (k .send) < n → Bs (pushed n accepts j other small-e keeps c m τ rs k w)
+        → Cr (oneSent k) rs (pushed n accepts j other small-e keeps c m τ rs k w)
         → L (run-on (oneSent k) q rs (pushed n accepts j other small-e keeps c m τ rs k w) g (Sending Status)))
         → L (run-on k q rs w g Send)
     sent-then k q rs w g B x l h go =
         let w′ = pushed n accepts j other small-e keeps c m τ rs k w in
         let B′ = base-send n accepts j other small-e keeps c m τ k rs w x l h B in
         let x′ = core-send n accepts j other small-e keeps c m τ k rs w x l in
-        go-send k q rs w g B h (turn-send (oneSent k) q rs w′ g B′ x′ (λ l′. go l′ B′ x′) (λ l′. receiving-any (oneSent k) q rs w′ g B′ x′ l′))
+        go-send k q rs w g B h
+        (turn-send (oneSent k) q rs w′ g B′ x′ (λ l′. go l′ B′ x′) (λ l′. receiving-any (oneSent k) q rs w′ g B′ x′ l′))
 
     -- from the sending side's poll, with at most i words to send
-    sending : (i : ℕ) (k : Work) (q : Sequence) (rs : List ℕ) (w : Wire) (g : List ℕ) → n ≤ k .sent + i → Bs w → Cr k rs w → k .sent < n → L (run-on k q rs w g (Sending Status))
+    sending : (i : ℕ) (k : Work) (q : Sequence) (rs : List ℕ) (w : Wire) (g : List ℕ) → n ≤ k .sent + i → Bs w → Cr k rs w
+        → k .sent < n → L (run-on k q rs w g (Sending Status))
     sending zero k q rs w g z B x l = absurd (omega arith)
     sending (suc i) k q rs w g z B x l =
         let up : counted (k .sent) (k .send) ≡ k .sent + 1 = counted-up (k .sent) (k .send) (omega (arith, x .toSend)) in
         go-sending-status k q rs w g B
         (go-sending-sizes k q rs w g B
         (sending-counts k q rs w g B (param k q rs w g B) x (param-is k q rs w g B)
-        (λ h. sent-then k q rs w g B x l h (λ l′ B′ x′. sending i (oneSent k) q rs (pushed n accepts j other small-e keeps c m τ rs k w) g (omega (arith, up)) B′ x′ l′))
+        (λ h.
+        sent-then k q rs w g B x l h
+        (λ l′ B′ x′.
+        sending i (oneSent k) q rs (pushed n accepts j other small-e keeps c m τ rs k w) g (omega (arith, up)) B′ x′ l′))
         (λ h. receiving-any k q rs w g B x h)))
 
-    sending-any : (k : Work) (q : Sequence) (rs : List ℕ) (w : Wire) (g : List ℕ) → Bs w → Cr k rs w → k .sent < n → L (run-on k q rs w g (Sending Status))
+    sending-any : (k : Work) (q : Sequence) (rs : List ℕ) (w : Wire) (g : List ℕ) → Bs w → Cr k rs w → k .sent < n
+        → L (run-on k q rs w g (Sending Status))
     sending-any k q rs w g B x l = sending n k q rs w g (omega arith) B x l
 
-    sent : (k : Work) (q : Sequence) (rs : List ℕ) (w : Wire) (g : List ℕ) → Bs w → Cr k rs w → k .sent < n → length (w .transmit) < j .exponent → L (run-on k q rs w g Send)
-    sent k q rs w g B x l h = sent-then k q rs w g B x l h (λ l′ B′ x′. sending-any (oneSent k) q rs (pushed n accepts j other small-e keeps c m τ rs k w) g B′ x′ l′)
+    sent : (k : Work) (q : Sequence) (rs : List ℕ) (w : Wire) (g : List ℕ) → Bs w → Cr k rs w → k .sent < n
+        → length (w .transmit) < j .exponent → L (run-on k q rs w g Send)
+    sent k q rs w g B x l h =
+        sent-then k q rs w g B x l h
+        (λ l′ B′ x′. sending-any (oneSent k) q rs (pushed n accepts j other small-e keeps c m τ rs k w) g B′ x′ l′)
 
-    sending-asked : (v : ℕ) (k : Work) (q : Sequence) (rs : List ℕ) (w : Wire) (g : List ℕ) → readField (Param TXFIFO) v ≡ j .exponent → Bs w → Cr k rs w → k .sent < n
+    sending-asked : (v : ℕ) (k : Work) (q : Sequence) (rs : List ℕ) (w : Wire) (g : List ℕ)
+        → readField (Param TXFIFO) v ≡ j .exponent → Bs w → Cr k rs w → k .sent < n
         → L (run-on k q rs w g (Sending (Counts v)))
-    sending-asked v k q rs w g e B x l = sending-counts k q rs w g B v x e (λ h. sent k q rs w g B x l h) (λ h. receiving-any k q rs w g B x h)
+    sending-asked v k q rs w g e B x l =
+        sending-counts k q rs w g B v x e (λ h. sent k q rs w g B x l h) (λ h. receiving-any k q rs w g B x h)
 
-    commanded : (k : Work) (q : Sequence) (rs : List ℕ) (w : Wire) (g : List ℕ) → Bs w → Cr k rs w → k .sent < n → L (run-on k q rs w g Command)
+    commanded : (k : Work) (q : Sequence) (rs : List ℕ) (w : Wire) (g : List ℕ) → Bs w → Cr k rs w → k .sent < n
+        → L (run-on k q rs w g Command)
     commanded k q rs w g B x l =
         let g′ = registersAfter (j .words rs) (Write TCR (k .command)) g in
         go-command k q rs w g B (turn-send k q rs w g′ B x (λ l′. sending-any k q rs w g′ B x l′) (λ l′. receiving-any k q rs w g′ B x l′))
 
-    flush-leads : (f : Flush) (k : Work) (q : Sequence) (rs : List ℕ) (w : Wire) (g : List ℕ) → Bs w → NowFlush n accepts j other f c c m τ k rs w → L (end (at (Ended Ok) k q) f rs w g)
+    flush-leads : (f : Flush) (k : Work) (q : Sequence) (rs : List ℕ) (w : Wire) (g : List ℕ) → Bs w
+        → NowFlush n accepts j other f c c m τ k rs w → L (end (at (Ended Ok) k q) f rs w g)
     unfolding dueAccess
     flush-leads FlushStatus k q rs w g B N = flush-status k q rs w g B (N .0) (N .1) (N .2)
     flush-leads FlushSizes k q rs w g B N = go-flush-sizes k q rs w g B (flush-counts k q rs w g B (N .0) (N .1) (N .2))
@@ -310,25 +394,31 @@ module _ (n : ℕ) (accepts : Bool) (j : Job) (other : ℕ → ℕ) (small-e : j
     flush-leads (Flushed FifoExponent) k q rs w g B N = absurd N
 
     -- EVERY PHASE SETTLES. Before its flush has begun
-    phase-leads : accepts ≡ true → (p : Stage) (k : Work) (q : Sequence) (rs : List ℕ) (w : Wire) (g : List ℕ) → Bs w → Now n accepts j other p FlushStatus c c m τ k rs w → L (run-on k q rs w g p)
+    phase-leads : accepts ≡ true → (p : Stage) (k : Work) (q : Sequence) (rs : List ℕ) (w : Wire) (g : List ℕ) → Bs w
+        → Now n accepts j other p FlushStatus c c m τ k rs w → L (run-on k q rs w g p)
     phase-leads a (Space Status) k q rs w g B N =
         go-space-status k q rs w g B
         (go-space-sizes k q rs w g B
-        (go-space-counts k q rs w g B (param k q rs w g B) (omega (arith, param-is k q rs w g B, N .0 .outEq, N .4, B .madeLe, calm)) (commanded k q rs w g B (N .0) (N .3))))
+        (go-space-counts k q rs w g B (param k q rs w g B)
+        (omega (arith, param-is k q rs w g B, N .0 .outEq, N .4, B .madeLe, calm)) (commanded k q rs w g B (N .0) (N .3))))
     phase-leads a (Space Sizes) k q rs w g B N =
         go-space-sizes k q rs w g B
-        (go-space-counts k q rs w g B (param k q rs w g B) (omega (arith, param-is k q rs w g B, N .0 .outEq, N .4, B .madeLe, calm)) (commanded k q rs w g B (N .0) (N .3)))
+        (go-space-counts k q rs w g B (param k q rs w g B)
+        (omega (arith, param-is k q rs w g B, N .0 .outEq, N .4, B .madeLe, calm)) (commanded k q rs w g B (N .0) (N .3)))
     phase-leads a (Space (Counts v)) k q rs w g B N =
         go-space-counts k q rs w g B v (omega (arith, N .2, N .0 .outEq, N .4, B .madeLe, calm)) (commanded k q rs w g B (N .0) (N .3))
     phase-leads a Command k q rs w g B N = commanded k q rs w g B (N .0) (N .2)
     phase-leads a (Sending Status) k q rs w g B N = sending-any k q rs w g B (N .0) (N .3)
-    phase-leads a (Sending Sizes) k q rs w g B N = go-sending-sizes k q rs w g B (sending-asked (param k q rs w g B) k q rs w g (param-is k q rs w g B) B (N .0) (N .3))
+    phase-leads a (Sending Sizes) k q rs w g B N =
+        go-sending-sizes k q rs w g B (sending-asked (param k q rs w g B) k q rs w g (param-is k q rs w g B) B (N .0) (N .3))
     phase-leads a (Sending (Counts v)) k q rs w g B N = sending-asked v k q rs w g (N .2) B (N .0) (N .3)
     phase-leads a Send k q rs w g B N = sent k q rs w g B (N .0) (N .2) (N .3)
     phase-leads a (Receiving Status) k q rs w g B N = receiving-any k q rs w g B (N .0) (N .2)
     phase-leads a (Receiving Sizes) k q rs w g B N =
-        go-receiving-sizes k q rs w g B (receiving-counts k q rs w g B (param k q rs w g B) pos (N .0) (N .2) (λ h. received k q rs w g B (N .0) (N .2) h))
-    phase-leads a (Receiving (Counts v)) k q rs w g B N = receiving-counts k q rs w g B v pos (N .0) (N .2) (λ h. received k q rs w g B (N .0) (N .2) h)
+        go-receiving-sizes k q rs w g B
+        (receiving-counts k q rs w g B (param k q rs w g B) pos (N .0) (N .2) (λ h. received k q rs w g B (N .0) (N .2) h))
+    phase-leads a (Receiving (Counts v)) k q rs w g B N =
+        receiving-counts k q rs w g B v pos (N .0) (N .2) (λ h. received k q rs w g B (N .0) (N .2) h)
     phase-leads a Receive k q rs w g B N = received k q rs w g B (N .0) (N .2) (N .3)
     phase-leads a (Recovery d) k q rs w g B N = absurd (omega (arith, N))
     phase-leads a (Ended Ok) k q rs w g B N = flush-leads FlushStatus k q rs w g B N
@@ -340,7 +430,8 @@ module _ (n : ℕ) (accepts : Bool) (j : Job) (other : ℕ → ℕ) (small-e : j
     phase-leads a (Ended FifoExponent) k q rs w g B N = absurd N
 
     -- at any stage of it
-    begun-flush : (p : Stage) (f : Flush) (k : Work) (rs : List ℕ) (w : Wire) → Now n accepts j other p f c c m τ k rs w → (p ≡ Ended Ok) ⊎ (f ≡ FlushStatus) ⊎ (0 < τ .flags) ⊎ (accepts ≡ false)
+    begun-flush : (p : Stage) (f : Flush) (k : Work) (rs : List ℕ) (w : Wire) → Now n accepts j other p f c c m τ k rs w
+        → (p ≡ Ended Ok) ⊎ (f ≡ FlushStatus) ⊎ (0 < τ .flags) ⊎ (accepts ≡ false)
     begun-flush (Space v) f k rs w N = inr (inl (N .1))
     begun-flush Command f k rs w N = inr (inl (N .1))
     begun-flush (Sending v) f k rs w N = inr (inl (N .1))
@@ -356,7 +447,8 @@ module _ (n : ℕ) (accepts : Bool) (j : Job) (other : ℕ → ℕ) (small-e : j
     begun-flush (Ended ZeroClock) f k rs w N = absurd N
     begun-flush (Ended FifoExponent) f k rs w N = absurd N
 
-    pub leads : accepts ≡ true → (p : Stage) (f : Flush) (k : Work) (q : Sequence) (rs : List ℕ) (w : Wire) (g : List ℕ) → Bs w → Now n accepts j other p f c c m τ k rs w
+    pub leads : accepts ≡ true → (p : Stage) (f : Flush) (k : Work) (q : Sequence) (rs : List ℕ) (w : Wire) (g : List ℕ) → Bs w
+        → Now n accepts j other p f c c m τ k rs w
         → L (end (at p k q) f rs w g)
     leads a p f k q rs w g B N =
         ⊎-elim

@@ -22,7 +22,10 @@ module _ (e : ℕ) (busy : Bool) (w : Wire) where
   pub shows-t : (held : ℕ) → eqb (readField (Sr TEF) (showsBy e busy w status held)) 1 ≡ w .t
   shows-t held = by-flags (w .t) (w .r) busy
     where
-      by-flags : (t r b : Bool) → eqb (readField (Sr TEF) (showsBy e b (record { transmit = w .transmit; receive = w .receive; t = t; r = r }) status held)) 1 ≡ t
+      by-flags : (t r b : Bool)
+          → eqb
+          (readField (Sr TEF) (showsBy e b (record { transmit = w .transmit; receive = w .receive; t = t; r = r }) status held)) 1
+          ≡ t
       by-flags true true true = refl
       by-flags true true false = refl
       by-flags true false true = refl
@@ -35,7 +38,10 @@ module _ (e : ℕ) (busy : Bool) (w : Wire) where
   pub shows-r : (held : ℕ) → eqb (readField (Sr REF) (showsBy e busy w status held)) 1 ≡ w .r
   shows-r held = by-flags (w .t) (w .r) busy
     where
-      by-flags : (t r b : Bool) → eqb (readField (Sr REF) (showsBy e b (record { transmit = w .transmit; receive = w .receive; t = t; r = r }) status held)) 1 ≡ r
+      by-flags : (t r b : Bool)
+          → eqb
+          (readField (Sr REF) (showsBy e b (record { transmit = w .transmit; receive = w .receive; t = t; r = r }) status held)) 1
+          ≡ r
       by-flags true true true = refl
       by-flags true true false = refl
       by-flags true false true = refl
@@ -48,7 +54,10 @@ module _ (e : ℕ) (busy : Bool) (w : Wire) where
   pub shows-busy : (held : ℕ) → eqb (readField (Sr MBF) (showsBy e busy w status held)) 1 ≡ busy
   shows-busy held = by-flags (w .t) (w .r) busy
     where
-      by-flags : (t r b : Bool) → eqb (readField (Sr MBF) (showsBy e b (record { transmit = w .transmit; receive = w .receive; t = t; r = r }) status held)) 1 ≡ b
+      by-flags : (t r b : Bool)
+          → eqb
+          (readField (Sr MBF) (showsBy e b (record { transmit = w .transmit; receive = w .receive; t = t; r = r }) status held)) 1
+          ≡ b
       by-flags true true true = refl
       by-flags true true false = refl
       by-flags true false true = refl
@@ -60,10 +69,12 @@ module _ (e : ℕ) (busy : Bool) (w : Wire) where
 
   -- PARAM's field is the exponent
   pub shows-exponent : (held : ℕ) → e ≤ 4 → readField (Param TXFIFO) (showsBy e busy w sizes held) ≡ e
-  shows-exponent held h = let l : e < 2 ^ 8 = omega arith in read-all (Param TXFIFO) ((Param RXFIFO, e) ∷ (Param TXFIFO, e) ∷ []) 0 tt ∙ mod-eq-of-lt l
+  shows-exponent held h =
+      let l : e < 2 ^ 8 = omega arith in read-all (Param TXFIFO) ((Param RXFIFO, e) ∷ (Param TXFIFO, e) ∷ []) 0 tt ∙ mod-eq-of-lt l
 
   -- FSR counts the queues, of at most 16 words each
-  pub shows-transmit : (held : ℕ) → length (w .transmit) ≤ 16 → readField (Fsr TXCOUNT) (showsBy e busy w counts held) ≡ length (w .transmit)
+  pub shows-transmit : (held : ℕ) → length (w .transmit) ≤ 16
+      → readField (Fsr TXCOUNT) (showsBy e busy w counts held) ≡ length (w .transmit)
   shows-transmit held h =
       let l : length (w .transmit) < 2 ^ 5 = omega arith in
       read-all (Fsr TXCOUNT) ((Fsr RXCOUNT, length (w .receive)) ∷ (Fsr TXCOUNT, length (w .transmit)) ∷ []) 0 tt ∙ mod-eq-of-lt l

@@ -37,15 +37,21 @@ by-kind P false x y px py = py
 
 sends-all : (s : Start) → plan s .send ≡ frameWords s
 sends-all s =
-    by-kind (λ (p : Plan). p .send ≡ wordCount (elementBits s) (p .total)) (s .board .inplace) (inPlacePlan (elementBits s) (s .board .driver) (s .read)) (separatePlan (elementBits s) (s .board .driver) (s .read) (s .write)) refl refl
+    by-kind (λ (p : Plan). p .send ≡ wordCount (elementBits s) (p .total)) (s .board .inplace)
+    (inPlacePlan (elementBits s) (s .board .driver) (s .read))
+    (separatePlan (elementBits s) (s .board .driver) (s .read) (s .write)) refl refl
 
 receives-all : (s : Start) → plan s .receive ≡ frameWords s
 receives-all s =
-    by-kind (λ (p : Plan). p .receive ≡ wordCount (elementBits s) (p .total)) (s .board .inplace) (inPlacePlan (elementBits s) (s .board .driver) (s .read)) (separatePlan (elementBits s) (s .board .driver) (s .read) (s .write)) refl refl
+    by-kind (λ (p : Plan). p .receive ≡ wordCount (elementBits s) (p .total)) (s .board .inplace)
+    (inPlacePlan (elementBits s) (s .board .driver) (s .read))
+    (separatePlan (elementBits s) (s .board .driver) (s .read) (s .write)) refl refl
 
 pub read-within : (s : Start) → length (s .read) ≤ total s
 read-within s =
-    by-kind (λ (p : Plan). length (s .read) ≤ p .total) (s .board .inplace) (inPlacePlan (elementBits s) (s .board .driver) (s .read)) (separatePlan (elementBits s) (s .board .driver) (s .read) (s .write))
+    by-kind (λ (p : Plan). length (s .read) ≤ p .total) (s .board .inplace)
+    (inPlacePlan (elementBits s) (s .board .driver) (s .read))
+    (separatePlan (elementBits s) (s .board .driver) (s .read) (s .write))
     (omega arith) (omega arith)
 
 -- the words that an end started with are those of its elements
@@ -53,15 +59,21 @@ pub own-words : (s : Start) (i : ℕ) → own (job s) i ≡ wordAt (s .board .dr
 own-words s i = by-place (s .board .inplace)
   where
     by-place : (b : Bool)
-        → cond b (inPlacePlan (elementBits s) (s .board .driver) (s .read)) (separatePlan (elementBits s) (s .board .driver) (s .read) (s .write)) .words [] i
-        ≡ wordAt (s .board .driver .order) (elementBits s) (cond b (inPlacePlan (elementBits s) (s .board .driver) (s .read)) (separatePlan (elementBits s) (s .board .driver) (s .read) (s .write)) .total) (cond b (s .read) (s .write)) i
+        → cond b (inPlacePlan (elementBits s) (s .board .driver) (s .read))
+        (separatePlan (elementBits s) (s .board .driver) (s .read) (s .write)) .words [] i
+        ≡ wordAt (s .board .driver .order) (elementBits s)
+        (cond b (inPlacePlan (elementBits s) (s .board .driver) (s .read))
+        (separatePlan (elementBits s) (s .board .driver) (s .read) (s .write)) .total)
+        (cond b (s .read) (s .write)) i
     by-place true = refl
     by-place false = refl
 
 -- an element already received over is sent as received; a word behind those received is as it was
 pub keeps : (s : Start) → Keeps (job s)
 keeps s rs i h =
-    by-kind (λ (p : Plan). p .words rs i ≡ p .words [] i) (s .board .inplace) (inPlacePlan (elementBits s) (s .board .driver) (s .read)) (separatePlan (elementBits s) (s .board .driver) (s .read) (s .write))
+    by-kind (λ (p : Plan). p .words rs i ≡ p .words [] i) (s .board .inplace)
+    (inPlacePlan (elementBits s) (s .board .driver) (s .read))
+    (separatePlan (elementBits s) (s .board .driver) (s .read) (s .write))
     (in-place-word (s .board .driver .order) (elementBits s) (length (s .read)) i rs (s .read) refl ∙ rw (le-ltb i (length rs) h)) refl
 
 -- FRESH
@@ -79,7 +91,8 @@ some-words U8 n h = let l : 0 < n = positive n h in omega arith
 some-words U16 n h = let l : 0 < n = positive n h in omega arith
 some-words U32 n h = let l : 0 < n = positive n h in omega arith
 
-pub good-fresh : (s : Start) (n : ℕ) (accepts : Bool) (other : ℕ → ℕ) (m : ℕ) → frameWords s ≡ n → accepted s ≡ accepts → Good n accepts (job s) other 0 0 m nothing (freshEnd s)
+pub good-fresh : (s : Start) (n : ℕ) (accepts : Bool) (other : ℕ → ℕ) (m : ℕ) → frameWords s ≡ n → accepted s ≡ accepts
+    → Good n accepts (job s) other 0 0 m nothing (freshEnd s)
 good-fresh s n accepts other m en ea = by-tests (eqb (total s) 0) (frameAccepted (elementBits s * total s)) refl ea
   where
     command : ℕ
@@ -87,16 +100,25 @@ good-fresh s n accepts other m en ea = by-tests (eqb (total s) 0) (frameAccepted
 
     by-tests : (x y : Bool) → eqb (total s) 0 ≡ x → (x || y) ≡ accepts
         → Good n accepts (job s) other 0 0 m nothing
-        (end (cond x (endedTransfer (s .board .driver) Ok) (cond y (startTransfer (s .board .driver) command (plan s .send) (plan s .receive)) (endedTransfer (s .board .driver) (Err FrameSize)))) Status [] freshWire freshRegisters)
+        (end
+        (cond x (endedTransfer (s .board .driver) Ok)
+        (cond y (startTransfer (s .board .driver) command (plan s .send) (plan s .receive))
+        (endedTransfer (s .board .driver) (Err FrameSize))))
+        Status [] freshWire freshRegisters)
     by-tests true y e h =
         let z : 0 ≡ n = sym (no-words (s .board .width) (total s) (eqb-true (total s) 0 e)) ∙ en in
-        record { base = fresh-base n accepts (job s) other; now = (fresh-core n accepts (job s) other m (endedTransfer (s .board .driver) Ok .work) (sym h) z z refl refl, z, z) }
+        record {
+          base = fresh-base n accepts (job s) other;
+          now = (fresh-core n accepts (job s) other m (endedTransfer (s .board .driver) Ok .work) (sym h) z z refl refl, z, z);
+        }
     by-tests false true e h =
         let l : 0 < n = subst (λ (k : ℕ). 0 < k) en (some-words (s .board .width) (total s) (eqb-false (total s) 0 e)) in
         record {
           base = fresh-base n accepts (job s) other;
           now = (
-            fresh-core n accepts (job s) other m (startTransfer (s .board .driver) command (plan s .send) (plan s .receive) .work) (sym h) (sends-all s ∙ en) (receives-all s ∙ en) refl refl,
+            fresh-core n accepts (job s) other m
+                (startTransfer (s .board .driver) command (plan s .send) (plan s .receive) .work) (sym h) (sends-all s ∙ en)
+                (receives-all s ∙ en) refl refl,
             refl,
             tt,
             l,
@@ -114,7 +136,8 @@ filled-at d (suc n) (x ∷ xs) zero h = refl
 filled-at d (suc n) (x ∷ xs) (suc i) h = filled-at d n xs i (omega arith)
 
 -- a read buffer over which the words of xs were laid holds them, and dummies
-pub laid-words : (o : BitOrder) (w : Width) (n : ℕ) (xs buf : List ℕ) → Elements (widthBits w) xs → length buf ≤ n → (i : ℕ) → i < length buf
+pub laid-words : (o : BitOrder) (w : Width) (n : ℕ) (xs buf : List ℕ) → Elements (widthBits w) xs → length buf ≤ n
+    → (i : ℕ) → i < length buf
     → getD (laid (unpackWords o (widthBits w) n (packWords o (widthBits w) n xs)) buf) i 0 ≡ getD xs i (dummy (widthBits w))
 laid-words o w n xs buf small l i h =
     let k = widthBits w in
@@ -151,7 +174,9 @@ pub fit : (g a : Start) → unfit g a ≡ false → Fit g a
 fit g a h =
     let order = unequal (lsbfOf (g .board .driver .order)) (lsbfOf (a .board .driver .order)) in
     let length = unequal (total g) (total a) in
-    let e₁ = either (ltb 4 (g .board .exponent)) (ltb 4 (a .board .exponent) || (unequal (elementBits g) (elementBits a) || (order || length))) h in
+    let e₁ =
+    either (ltb 4 (g .board .exponent))
+    (ltb 4 (a .board .exponent) || (unequal (elementBits g) (elementBits a) || (order || length))) h in
     let e₂ = either (ltb 4 (a .board .exponent)) (unequal (elementBits g) (elementBits a) || (order || length)) (e₁ .1) in
     let e₃ = either (unequal (elementBits g) (elementBits a)) (order || length) (e₂ .1) in
     let e₄ = either order length (e₃ .1) in
@@ -159,6 +184,8 @@ fit g a h =
       gateSmall = ltb-false 4 (g .board .exponent) (e₁ .0);
       antennaSmall = ltb-false 4 (a .board .exponent) (e₂ .0);
       width = equal (elementBits g) (elementBits a) (e₃ .0);
-      order = same-order (g .board .driver .order) (a .board .driver .order) (equal (lsbfOf (g .board .driver .order)) (lsbfOf (a .board .driver .order)) (e₄ .0));
+      order =
+          same-order (g .board .driver .order) (a .board .driver .order)
+          (equal (lsbfOf (g .board .driver .order)) (lsbfOf (a .board .driver .order)) (e₄ .0));
       length = equal (total g) (total a) (e₄ .1);
     }

@@ -21,7 +21,8 @@ module _ (n : ℕ) (accepts : Bool) (j : Job) (other : ℕ → ℕ) (c m : ℕ) 
   G = Good n accepts j other
 
   -- NOISE
-  raised-base : (d : Direction) (t : ℕ) (σ : Tally) (w : Wire) → Base n accepts j other t τ w → τ .flags ≤ σ .flags → 0 < σ .flags → σ .lost ≤ σ .flags → σ .madeUp ≡ τ .madeUp
+  raised-base : (d : Direction) (t : ℕ) (σ : Tally) (w : Wire) → Base n accepts j other t τ w → τ .flags ≤ σ .flags
+      → 0 < σ .flags → σ .lost ≤ σ .flags → σ .madeUp ≡ τ .madeUp
       → Base n accepts j other t σ (raised d w)
   raised-base Tx t σ w B a b l e = record {
     small = B .small;
@@ -47,7 +48,12 @@ module _ (n : ℕ) (accepts : Bool) (j : Job) (other : ℕ → ℕ) (c m : ℕ) 
   }
 
   pub good-noise : (d : Direction) → G c c m τ x → G c c m (noted false false true τ) (rewired (raised d) x)
-  good-noise d g = record { base = raised-base d c (noted false false true τ) (x .wire) (g .base) (omega arith) (omega arith) (omega (arith, g .base .lostLe)) refl; now = by-direction d }
+  good-noise d g =
+      record {
+        base = raised-base d c (noted false false true τ) (x .wire) (g .base) (omega arith) (omega arith)
+            (omega (arith, g .base .lostLe)) refl;
+        now = by-direction d;
+      }
     where
       same : (w′ : Wire) → w′ .transmit ≡ x .wire .transmit → w′ .receive ≡ x .wire .receive
           → Now n accepts j other (x .transfer .phase) (x .flush) c c m (noted false false true τ) (x .transfer .work) (x .received) w′
@@ -69,12 +75,15 @@ module _ (n : ℕ) (accepts : Bool) (j : Job) (other : ℕ → ℕ) (c m : ℕ) 
           er⁻¹ : x .wire .receive ≡ w′ .receive
           er⁻¹ = cc
 
-      by-direction : (d : Direction) → Now n accepts j other (x .transfer .phase) (x .flush) c c m (noted false false true τ) (x .transfer .work) (x .received) (raised d (x .wire))
+      by-direction : (d : Direction)
+          → Now n accepts j other (x .transfer .phase) (x .flush) c c m (noted false false true τ) (x .transfer .work)
+          (x .received) (raised d (x .wire))
       by-direction Tx = same (raised Tx (x .wire)) refl refl
       by-direction Rx = same (raised Rx (x .wire)) refl refl
 
   -- THE FIRST WORD of the transmit queue goes
-  pub good-sent : (v : ℕ) (queue : List ℕ) → x .wire .transmit ≡ v ∷ queue → c < n → G c c m τ x → G (suc c) c m τ (rewired (λ w. queues queue (w .receive) w) x)
+  pub good-sent : (v : ℕ) (queue : List ℕ) → x .wire .transmit ≡ v ∷ queue → c < n → G c c m τ x
+      → G (suc c) c m τ (rewired (λ w. queues queue (w .receive) w) x)
   good-sent v queue e l g =
       let B = g .base in
       let z : length (x .wire .transmit) ≡ suc (length queue) = ap length e in
@@ -146,7 +155,8 @@ module _ (n : ℕ) (accepts : Bool) (j : Job) (other : ℕ → ℕ) (c m : ℕ) 
     where
       by-room : (y : Bool) → full (j .exponent) (x .wire .receive) ≡ y
           → G (suc c) (suc c) m′ (noted y false false τ)
-          (end (x .transfer) (x .flush) (x .received) (cond y (raised Rx (x .wire)) (queues (x .wire .transmit) (x .wire .receive ++ (v ∷ [])) (x .wire))) (x .registers))
+          (end (x .transfer) (x .flush) (x .received)
+          (cond y (raised Rx (x .wire)) (queues (x .wire .transmit) (x .wire .receive ++ (v ∷ [])) (x .wire))) (x .registers))
       by-room true e = let B = g .base in record {
         base = record {
           small = B .small;

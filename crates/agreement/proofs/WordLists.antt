@@ -22,7 +22,8 @@ from-snoc f a (suc k) = ap (λ (l : List ℕ). f a ∷ l) (rw (add-suc, ← suc-
 pub length-snoc : (q : List ℕ) (v : ℕ) → length (q ++ v ∷ []) ≡ suc (length q)
 length-snoc q v = simp length-append (omega arith)
 
-pub snoc-is : (f : ℕ → ℕ) (a : ℕ) (q : List ℕ) (v : ℕ) → q ≡ from f a (length q) → v ≡ f (a + length q) → q ++ v ∷ [] ≡ from f a (length (q ++ v ∷ []))
+pub snoc-is : (f : ℕ → ℕ) (a : ℕ) (q : List ℕ) (v : ℕ) → q ≡ from f a (length q) → v ≡ f (a + length q)
+    → q ++ v ∷ [] ≡ from f a (length (q ++ v ∷ []))
 snoc-is f a q v p h = rw length-snoc (joined ∙ from-snoc f a (length q))
   where
     joined : q ++ v ∷ [] ≡ from f a (length q) ++ f (a + length q) ∷ []

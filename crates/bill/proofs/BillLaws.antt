@@ -27,7 +27,8 @@ use Rattle.machine.specs.Transfer.{startTransfer, endedTransfer, dueAccess, res
 use Rattle.runs.specs.declared.result.RunResult.{RunResult}
 use Rattle.runs.specs.Run.{State, Left, start, run, limits, endingOf, ran, logOver}
 use Rattle.runs.proofs.RunLaws.{run-halted}
-use Rattle.transfers.specs.Transfers.{Plan, begun, transferStates, TransferLeft, transferred, transferLeft, separatePlan, inPlacePlan, writePlan, readPlan, exchangeSeparate, exchange, writeNoRead, readNoWrite}
+use Rattle.transfers.specs.Transfers.{Plan, begun, transferStates, TransferLeft, transferred, transferLeft, separatePlan, inPlacePlan}
+use Rattle.transfers.specs.Transfers.{writePlan, readPlan, exchangeSeparate, exchange, writeNoRead, readNoWrite}
 use Rattle.transfers.proofs.CallLaws.{leaves}
 use Rattle.bill.specs.Unready.{unreadyPolls}
 use Rattle.bill.specs.Listed.{pollsAgain}
@@ -60,7 +61,9 @@ module _ (k : ℕ) (d : Lpspi) (p : Plan) (budget : ℕ) (script : List ℕ) whe
   ok-began : (Holds : Transfer → Type 0) → (p .total ≡ 0 → Holds (endedTransfer d Ok))
       → ((command : ℕ) → EndsOk (startTransfer d command (p .send) (p .receive)) → Holds (startTransfer d command (p .send) (p .receive)))
       → EndsOk (begun k d p) → Holds (begun k d p)
-  ok-began Holds empty started = by-tests (commanded (λ w. p .command (driverCommand d w)) (k * p .total) .value) (eqb (p .total) 0) refl (frameAccepted (k * p .total))
+  ok-began Holds empty started =
+      by-tests (commanded (λ w. p .command (driverCommand d w)) (k * p .total) .value) (eqb (p .total) 0) refl
+      (frameAccepted (k * p .total))
     where
       by-tests : (command : ℕ) (b : Bool) → eqb (p .total) 0 ≡ b → (c : Bool)
           → EndsOk (cond b (endedTransfer d Ok) (cond c (startTransfer d command (p .send) (p .receive)) (endedTransfer d (Err FrameSize))))
@@ -120,15 +123,19 @@ module _ (k : ℕ) (d : Lpspi) (budget : ℕ) (script log : List ℕ) (p : Plan)
   exact ok some =
       ap (λ (x : Left). x .result .accesses) (passed ok .0)
       ∙ ok-began k d p budget script
-      (λ (t : Transfer). length (run dueAccess resumed (p .words) script budget (start t) .log) ≡ 4 + 4 * p .send + 4 * p .receive + 3 * unreadyPolls script (p .words) budget (start t))
-      (λ (z : p .total ≡ 0). absurd (omega arith)) (λ command. ok-exactly script (p .words) d command budget (p .send) (p .receive)) (passed ok .1)
+      (λ (t : Transfer).
+      length (run dueAccess resumed (p .words) script budget (start t) .log)
+      ≡ 4 + 4 * p .send + 4 * p .receive + 3 * unreadyPolls script (p .words) budget (start t))
+      (λ (z : p .total ≡ 0). absurd (omega arith))
+      (λ command. ok-exactly script (p .words) d command budget (p .send) (p .receive)) (passed ok .1)
 
   shown : call .number ≡ 0 → waits k d p budget script ≡ pollsAgain (call .result .accesses) (call .log)
   shown ok =
       ok-began k d p budget script
       (λ (t : Transfer). unreadyPolls script (p .words) budget (start t)
       ≡ (let l = run dueAccess resumed (p .words) script budget (start t) .log in pollsAgain (length l) (logOver log l)))
-      (λ (z : p .total ≡ 0). empty-listed k d p budget script log) (λ command. ok-listed script (p .words) d command budget (p .send) (p .receive) log) (passed ok .1)
+      (λ (z : p .total ≡ 0). empty-listed k d p budget script log)
+      (λ command. ok-listed script (p .words) d command budget (p .send) (p .receive) log) (passed ok .1)
       ∙ ap (λ (x : Left). pollsAgain (x .result .accesses) (x .log)) (sym (passed ok .0))
 
   none : p .total ≡ 0 → call .result .accesses ≡ 0
@@ -147,7 +154,8 @@ module _ (k : ℕ) (d : Lpspi) (budget : ℕ) (script log : List ℕ) (p : Plan)
     listed = shown;
   }
     where
-      by-total : (n : ℕ) → p .total ≡ n → call .number ≡ 0 → call .result .accesses ≤ 4 + each * wordCount k (p .total) + 3 * waits k d p budget script
+      by-total : (n : ℕ) → p .total ≡ n → call .number ≡ 0
+          → call .result .accesses ≤ 4 + each * wordCount k (p .total) + 3 * waits k d p budget script
       by-total zero t ok = omega (arith, none t)
       by-total (suc n) t ok = omega (arith, words, exact ok (omega arith))
 
@@ -155,10 +163,13 @@ module _ (k : ℕ) (d : Lpspi) (budget : ℕ) (script log : List ℕ) (p : Plan)
 module _ (k : ℕ) (d : Lpspi) (budget : ℕ) (script log : List ℕ) {r : RunResult} {log′ buffer′ : List ℕ} where
   returned : {t : TransferLeft} (total each w : ℕ) → AccessBill k total each w (t .call .number) (t .call .result .accesses) (t .call .log)
       → transferLeft r log′ buffer′ ≡ t → AccessBill k total each w (numberOf (r .ending)) (r .accesses) log′
-  returned total each w bill e = subst (λ (t : TransferLeft). AccessBill k total each w (t .call .number) (t .call .result .accesses) (t .call .log)) (sym e) bill
+  returned total each w bill e =
+      subst (λ (t : TransferLeft). AccessBill k total each w (t .call .number) (t .call .result .accesses) (t .call .log)) (sym e)
+      bill
 
   pub separate-bill : (read write : List ℕ) → transferLeft r log′ buffer′ ≡ exchangeSeparate k d read write budget script log
-      → AccessBill k (max (length read) (length write)) 8 (waits k d (separatePlan k d read write) budget script) (numberOf (r .ending)) (r .accesses) log′
+      → AccessBill k (max (length read) (length write)) 8 (waits k d (separatePlan k d read write) budget script)
+      (numberOf (r .ending)) (r .accesses) log′
   separate-bill read write = returned _ _ _ (plan-bill k d budget script log (separatePlan k d read write) read 8 (omega arith))
 
   pub in-place-bill : (buf : List ℕ) → transferLeft r log′ buffer′ ≡ exchange k d buf budget script log

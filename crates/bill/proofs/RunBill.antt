@@ -23,7 +23,8 @@ use Rattle.machine.specs.declared.transfer.Stage.the-variants.{Space, Command, 
 use Rattle.machine.specs.declared.transfer.Transfer.{Transfer}
 use Rattle.machine.specs.declared.transfer.Work.{Work}
 use Rattle.machine.specs.Poll.{failed, ready}
-use Rattle.machine.specs.Transfer.{at, startTransfer, sendTurn, receiveTurn, oneSent, oneReceived, spaceBy, sendingBy, receivingBy, dueAccess, resumed}
+use Rattle.machine.specs.Transfer.{at, startTransfer, sendTurn, receiveTurn, oneSent, oneReceived}
+use Rattle.machine.specs.Transfer.{spaceBy, sendingBy, receivingBy, dueAccess, resumed}
 use Rattle.runs.specs.Run.{State, start, halted, answerOf, endingOf, run}
 use Rattle.runs.proofs.Places.{Standing, counted-up, placed-run, start-placed, in-order}
 use Rattle.bill.specs.Unready.{unreadyIn, unreadyPolls}
@@ -82,11 +83,13 @@ space-bill : (t : Bool) (w : Work) (made n : ℕ) → made ≡ 2 + 3 * n → Bil
 space-bill true w made n h = omega arith
 space-bill false w made n h = omega arith
 
-sending-bill : (t : Bool) (w : Work) (made n : ℕ) → made ≡ cost w + 2 + 3 * n → Bill (sendingBy w (cond t Ready Unready)) w (made + 1) (n + cond t 0 1)
+sending-bill : (t : Bool) (w : Work) (made n : ℕ) → made ≡ cost w + 2 + 3 * n
+    → Bill (sendingBy w (cond t Ready Unready)) w (made + 1) (n + cond t 0 1)
 sending-bill true w made n h = omega arith
 sending-bill false w made n h = receive-bill w (made + 1) (n + 1) (omega arith)
 
-receiving-bill : (t : Bool) (w : Work) (made n : ℕ) → made ≡ cost w + 2 + 3 * n → Bill (receivingBy w (cond t Ready Unready)) w (made + 1) (n + cond t 0 1)
+receiving-bill : (t : Bool) (w : Work) (made n : ℕ) → made ≡ cost w + 2 + 3 * n
+    → Bill (receivingBy w (cond t Ready Unready)) w (made + 1) (n + cond t 0 1)
 receiving-bill true w made n h = omega arith
 receiving-bill false w made n h = send-bill w (made + 1) (n + 1) (omega arith)
 
@@ -95,11 +98,13 @@ space-first : (t : Bool) (w : Work) (made n : ℕ) → made ≡ 3 * n → Bill (
 space-first true w made n h = tt
 space-first false w made n h = omega arith
 
-sending-first : (t : Bool) (w : Work) (made n : ℕ) → made ≡ cost w + 3 * n → Bill (sendingBy w (cond t Failed (Next Sizes))) w (made + 1) (n + 0)
+sending-first : (t : Bool) (w : Work) (made n : ℕ) → made ≡ cost w + 3 * n
+    → Bill (sendingBy w (cond t Failed (Next Sizes))) w (made + 1) (n + 0)
 sending-first true w made n h = tt
 sending-first false w made n h = omega arith
 
-receiving-first : (t : Bool) (w : Work) (made n : ℕ) → made ≡ cost w + 3 * n → Bill (receivingBy w (cond t Failed (Next Sizes))) w (made + 1) (n + 0)
+receiving-first : (t : Bool) (w : Work) (made n : ℕ) → made ≡ cost w + 3 * n
+    → Bill (receivingBy w (cond t Failed (Next Sizes))) w (made + 1) (n + 0)
 receiving-first true w made n h = tt
 receiving-first false w made n h = omega arith
 
@@ -108,8 +113,10 @@ recovery-bill true d w made n = tt
 recovery-bill false d w made n = tt
 
 -- one access
-bill-on : (p : Stage) (w : Work) (r : Sequence) (v made n used answers : ℕ) → halted (dueAccess (at p w r)) used answers ≡ false → Standing p w → Bill p w made n
-    → Bill (resumed (at p w r) (answerOf (dueAccess (at p w r)) v) .phase) (resumed (at p w r) (answerOf (dueAccess (at p w r)) v) .work) (made + 1) (n + unreadyIn p v)
+bill-on : (p : Stage) (w : Work) (r : Sequence) (v made n used answers : ℕ) → halted (dueAccess (at p w r)) used answers ≡ false
+    → Standing p w → Bill p w made n
+    → Bill (resumed (at p w r) (answerOf (dueAccess (at p w r)) v) .phase)
+    (resumed (at p w r) (answerOf (dueAccess (at p w r)) v) .work) (made + 1) (n + unreadyIn p v)
 unfolding dueAccess resumed
 bill-on (Space Status) w r v made n used answers l t h = space-first (failed Tx v) w made n (omega arith)
 bill-on (Space Sizes) w r v made n used answers l t h = omega arith
@@ -122,8 +129,10 @@ bill-on Send w r v made n used answers l t h = send-bill (oneSent w) (made + 1) 
 bill-on (Receiving Status) w r v made n used answers l t h = receiving-first (failed Rx v) w made n (omega arith)
 bill-on (Receiving Sizes) w r v made n used answers l t h = omega arith
 bill-on (Receiving (Counts x)) w r v made n used answers l t h = receiving-bill (ready Rx x v) w made n h
-bill-on Receive w r v made n used answers l t h = receive-bill (oneReceived w) (made + 1) (n + 0) (omega (arith, counted-up (w .received) (w .receive) t))
-bill-on (Recovery d) w r v made n used answers l t h = recovery-bill (recovered (recoveryAfter r (answerOf (dueAccess (at (Recovery d) w r)) v))) d w (made + 1) (n + 0)
+bill-on Receive w r v made n used answers l t h =
+    receive-bill (oneReceived w) (made + 1) (n + 0) (omega (arith, counted-up (w .received) (w .receive) t))
+bill-on (Recovery d) w r v made n used answers l t h =
+    recovery-bill (recovered (recoveryAfter r (answerOf (dueAccess (at (Recovery d) w r)) v))) d w (made + 1) (n + 0)
 bill-on (Ended e) w r v made n used answers l t h = absurd (let z : _≡_ {A = ℕ} 0 1 = cc in omega arith)
 
 billed-on : Kept Billed
@@ -132,7 +141,9 @@ billed-on t l value v n used answers go turn h =
 
 module _ (script : List ℕ) (words : List ℕ → ℕ → ℕ) (d : Lpspi) (command budget : ℕ) where
   -- AN OK RUN of so many words to send and to receive makes exactly so many accesses
-  pub ok-exactly : (send receive : ℕ) → endingOf (dueAccess (run dueAccess resumed words script budget (start (startTransfer d command send receive)) .machine)) ≡ Ok
+  pub ok-exactly : (send receive : ℕ)
+      → endingOf (dueAccess (run dueAccess resumed words script budget (start (startTransfer d command send receive)) .machine))
+      ≡ Ok
       → length (run dueAccess resumed words script budget (start (startTransfer d command send receive)) .log)
       ≡ 4 + 4 * send + 4 * receive + 3 * unreadyPolls script words budget (start (startTransfer d command send receive))
   ok-exactly send receive e =

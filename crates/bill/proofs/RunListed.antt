@@ -27,7 +27,8 @@ use Rattle.machine.specs.declared.transfer.Stage.the-variants.{Space, Command, 
 use Rattle.machine.specs.declared.transfer.Transfer.{Transfer}
 use Rattle.machine.specs.declared.transfer.Work.{Work}
 use Rattle.machine.specs.Poll.{failed, ready}
-use Rattle.machine.specs.Transfer.{at, startTransfer, sendTurn, receiveTurn, oneSent, oneReceived, spaceBy, sendingBy, receivingBy, dueAccess, resumed}
+use Rattle.machine.specs.Transfer.{at, startTransfer, sendTurn, receiveTurn, oneSent, oneReceived}
+use Rattle.machine.specs.Transfer.{spaceBy, sendingBy, receivingBy, dueAccess, resumed}
 use Rattle.runs.specs.Run.{Logged, State, start, flat, logOver, halted, codeOf, answerOf, endingOf, run}
 use Rattle.runs.proofs.Places.{Standing, start-placed}
 use Rattle.bill.specs.Unready.{unreadyIn, unreadyPolls}
@@ -47,7 +48,8 @@ flat-again : (counts : Bool) (l : List Logged) (rest : List ℕ) → againAfter 
 flat-again counts [] rest = refl
 flat-again counts (a ∷ l) rest = ap (λ n. again counts (a .at) + n) (flat-again (eqb (a .at) (offsetOf FSR)) l rest)
 
-again-on : (counts : Bool) (l : List Logged) (a : Logged) → againIn counts (l ++ (a ∷ [])) ≡ againIn counts l + again (lastCounts counts l) (a .at)
+again-on : (counts : Bool) (l : List Logged) (a : Logged)
+    → againIn counts (l ++ (a ∷ [])) ≡ againIn counts l + again (lastCounts counts l) (a .at)
 again-on counts [] a = add-zero (again counts (a .at)) ∙ sym (zero-add (again counts (a .at)))
 again-on counts (b ∷ l) a = ap (λ n. again counts (b .at) + n) (again-on (eqb (b .at) (offsetOf FSR)) l a) ∙ omega arith
 
@@ -113,15 +115,18 @@ receive-waits w made n left h = by-test (ltb (w .sent) (w .send)) (ltb (w .recei
     by-test false true e = h
     by-test false false e = absurd (let z : _≡_ {A = ℕ} 0 1 = cc in omega arith)
 
-space-first : (t last : Bool) (made n : ℕ) → n ≡ made + cond last 1 0 → Shown (spaceBy (cond t Failed (Next Sizes))) false (made + cond last 1 0) (n + 0)
+space-first : (t last : Bool) (made n : ℕ) → n ≡ made + cond last 1 0
+    → Shown (spaceBy (cond t Failed (Next Sizes))) false (made + cond last 1 0) (n + 0)
 space-first true last made n h = tt
 space-first false last made n h = rw add-zero h
 
-sending-first : (t last : Bool) (w : Work) (made n : ℕ) → n ≡ made + cond last 1 0 → Shown (sendingBy w (cond t Failed (Next Sizes))) false (made + cond last 1 0) (n + 0)
+sending-first : (t last : Bool) (w : Work) (made n : ℕ) → n ≡ made + cond last 1 0
+    → Shown (sendingBy w (cond t Failed (Next Sizes))) false (made + cond last 1 0) (n + 0)
 sending-first true last w made n h = tt
 sending-first false last w made n h = rw add-zero h
 
-receiving-first : (t last : Bool) (w : Work) (made n : ℕ) → n ≡ made + cond last 1 0 → Shown (receivingBy w (cond t Failed (Next Sizes))) false (made + cond last 1 0) (n + 0)
+receiving-first : (t last : Bool) (w : Work) (made n : ℕ) → n ≡ made + cond last 1 0
+    → Shown (receivingBy w (cond t Failed (Next Sizes))) false (made + cond last 1 0) (n + 0)
 receiving-first true last w made n h = tt
 receiving-first false last w made n h = rw add-zero h
 
@@ -129,11 +134,13 @@ space-last : (t : Bool) (made n : ℕ) → n ≡ made → Shown (spaceBy (cond t
 space-last true made n h = omega arith
 space-last false made n h = omega arith
 
-sending-last : (t : Bool) (w : Work) (made n : ℕ) → w .sent < w .send → n ≡ made → Shown (sendingBy w (cond t Ready Unready)) true (made + 0) (n + cond t 0 1)
+sending-last : (t : Bool) (w : Work) (made n : ℕ) → w .sent < w .send → n ≡ made
+    → Shown (sendingBy w (cond t Ready Unready)) true (made + 0) (n + cond t 0 1)
 sending-last true w made n left h = omega arith
 sending-last false w made n left h = send-waits w (made + 0) (n + 1) left (omega arith)
 
-receiving-last : (t : Bool) (w : Work) (made n : ℕ) → w .received < w .receive → n ≡ made → Shown (receivingBy w (cond t Ready Unready)) true (made + 0) (n + cond t 0 1)
+receiving-last : (t : Bool) (w : Work) (made n : ℕ) → w .received < w .receive → n ≡ made
+    → Shown (receivingBy w (cond t Ready Unready)) true (made + 0) (n + cond t 0 1)
 receiving-last true w made n left h = omega arith
 receiving-last false w made n left h = receive-waits w (made + 0) (n + 1) left (omega arith)
 
@@ -142,7 +149,8 @@ recovery-shown true last d made n = tt
 recovery-shown false last d made n = tt
 
 -- one access
-shown-on : (p : Stage) (w : Work) (r : Sequence) (v made n used answers : ℕ) (last : Bool) → halted (dueAccess (at p w r)) used answers ≡ false → Standing p w
+shown-on : (p : Stage) (w : Work) (r : Sequence) (v made n used answers : ℕ) (last : Bool)
+    → halted (dueAccess (at p w r)) used answers ≡ false → Standing p w
     → Shown p last made n
     → Shown (resumed (at p w r) (answerOf (dueAccess (at p w r)) v) .phase) (eqb (codeOf (dueAccess (at p w r))) (offsetOf FSR))
     (made + again last (codeOf (dueAccess (at p w r)))) (n + unreadyIn p v)
@@ -159,7 +167,8 @@ shown-on (Receiving Status) w r v made n used answers last go t h = receiving-fi
 shown-on (Receiving Sizes) w r v made n used answers last go t h = omega arith
 shown-on (Receiving (Counts x)) w r v made n used answers last go t h = receiving-last (ready Rx x v) w made n t h
 shown-on Receive w r v made n used answers last go t h = receive-shown (oneReceived w) (made + 0) (n + 0) (omega arith)
-shown-on (Recovery d) w r v made n used answers last go t h = recovery-shown (recovered (recoveryAfter r (answerOf (dueAccess (at (Recovery d) w r)) v))) _ d _ (n + 0)
+shown-on (Recovery d) w r v made n used answers last go t h =
+    recovery-shown (recovered (recoveryAfter r (answerOf (dueAccess (at (Recovery d) w r)) v))) _ d _ (n + 0)
 shown-on (Ended e) w r v made n used answers last go t h = absurd (let z : _≡_ {A = ℕ} 0 1 = cc in omega arith)
 
 abbrev Listed : Holding
@@ -172,9 +181,12 @@ listed-on t l value v n used answers go turn h =
 
 module _ (script : List ℕ) (words : List ℕ → ℕ → ℕ) (d : Lpspi) (command budget : ℕ) where
   -- AN OK RUN: its unready polls, counted off its log, which lies over the front of an older one
-  pub ok-listed : (send receive : ℕ) (old : List ℕ) → endingOf (dueAccess (run dueAccess resumed words script budget (start (startTransfer d command send receive)) .machine)) ≡ Ok
+  pub ok-listed : (send receive : ℕ) (old : List ℕ)
+      → endingOf (dueAccess (run dueAccess resumed words script budget (start (startTransfer d command send receive)) .machine))
+      ≡ Ok
       → unreadyPolls script words budget (start (startTransfer d command send receive))
-      ≡ (let l = run dueAccess resumed words script budget (start (startTransfer d command send receive)) .log in pollsAgain (length l) (logOver old l))
+      ≡ (let l = run dueAccess resumed words script budget (start (startTransfer d command send receive)) .log in
+      pollsAgain (length l) (logOver old l))
   ok-listed send receive old e =
       let s : State Transfer = start (startTransfer d command send receive) in
       let l : List Logged = run dueAccess resumed words script budget s .log in

@@ -1,5 +1,5 @@
--- What holds of a transfer's phase and work, its log and its unready polls so far, and is kept by every access, holds where its run ends Ok.
--- Assumes nothing.
+-- What holds of a transfer's phase and work, its log and its unready polls so far, and is kept by every access, holds where its run ends
+-- Ok. Assumes nothing.
 use Prim.Native.Nat.{ℕ, zero, suc, _+_}
 use mathlib.Core.Bool.{Bool, true, false, cond}
 use mathlib.Core.List.{List, [], _∷_, _++_}
@@ -28,8 +28,10 @@ entry t value = record { at = codeOf (dueAccess t); value = value }
 -- kept by that access, which is answered v
 abbrev pub Kept : Holding → Type 0
 Kept Holds =
-    (t : Transfer) (l : List Logged) (value v n used answers : ℕ) → halted (dueAccess t) used answers ≡ false → Standing (t .phase) (t .work) → Holds (t .phase) (t .work) l n
-    → Holds (resumed t (answerOf (dueAccess t) v) .phase) (resumed t (answerOf (dueAccess t) v) .work) (l ++ (entry t value ∷ [])) (n + unreadyIn (t .phase) v)
+    (t : Transfer) (l : List Logged) (value v n used answers : ℕ) → halted (dueAccess t) used answers ≡ false
+    → Standing (t .phase) (t .work) → Holds (t .phase) (t .work) l n
+    → Holds (resumed t (answerOf (dueAccess t) v) .phase) (resumed t (answerOf (dueAccess t) v) .work)
+    (l ++ (entry t value ∷ [])) (n + unreadyIn (t .phase) v)
 
 -- a run ends Ok where its machine answers Ok
 pub ok-done : (a : Access) → endingOf a ≡ Ok → a ≡ Done Ok
@@ -40,7 +42,8 @@ ok-done (ReceiveWord i) e = cc
 ok-done (Done x) e = ap Done e
 
 -- a run that makes no access has none
-pub no-polls : (script : List ℕ) (words : List ℕ → ℕ → ℕ) (budget : ℕ) (s : State Transfer) → halted (dueAccess (s .machine)) (s .used) (length script) ≡ true
+pub no-polls : (script : List ℕ) (words : List ℕ → ℕ → ℕ) (budget : ℕ) (s : State Transfer)
+    → halted (dueAccess (s .machine)) (s .used) (length script) ≡ true
     → unreadyPolls script words budget s ≡ 0
 unfolding unreadyPolls step
 no-polls script words zero s h = refl
@@ -50,12 +53,14 @@ module _ (script : List ℕ) (words : List ℕ → ℕ → ℕ) (send receive : 
   abbrev Now : State Transfer → ℕ → Type 0
   Now s n = Holds (s .machine .phase) (s .machine .work) (s .log) n
 
-  step-keeps : (s : State Transfer) (n : ℕ) → Placed send receive (s .machine) (length (s .received)) → Now s n → Now (step dueAccess resumed words script s) (n + unready script s)
+  step-keeps : (s : State Transfer) (n : ℕ) → Placed send receive (s .machine) (length (s .received)) → Now s n
+      → Now (step dueAccess resumed words script s) (n + unready script s)
   unfolding step afterAccess
   step-keeps s n p h = by-test (halted (dueAccess (s .machine)) (s .used) (length script)) refl
     where
       by-test : (t : Bool) → halted (dueAccess (s .machine)) (s .used) (length script) ≡ t
-          → Now (cond t s (afterAccess dueAccess resumed words script (dueAccess (s .machine)) s)) (n + cond t 0 (unreadyIn (s .machine .phase) (getD script (s .used) 0)))
+          → Now (cond t s (afterAccess dueAccess resumed words script (dueAccess (s .machine)) s))
+          (n + cond t 0 (unreadyIn (s .machine .phase) (getD script (s .used) 0)))
       by-test true t = rw add-zero h
       by-test false t = kept (s .machine) (s .log) _ (getD script (s .used) 0) n (s .used) (length script) t (p .turn) h
 
@@ -65,12 +70,15 @@ module _ (script : List ℕ) (words : List ℕ → ℕ → ℕ) (send receive : 
   run-keeps zero s n p h = rw add-zero h
   run-keeps (suc budget) s n p h =
       rw (← add-assoc)
-      (run-keeps budget (step dueAccess resumed words script s) (n + unready script s) (placed-step send receive words script s p) (step-keeps s n p h))
+      (run-keeps budget (step dueAccess resumed words script s) (n + unready script s)
+      (placed-step send receive words script s p) (step-keeps s n p h))
 
   pub ok-keeps : (budget : ℕ) (s : State Transfer) → Placed send receive (s .machine) (length (s .received)) → Now s 0
       → endingOf (dueAccess (run dueAccess resumed words script budget s .machine)) ≡ Ok
-      → Holds (Ended Ok) (run dueAccess resumed words script budget s .machine .work) (run dueAccess resumed words script budget s .log) (unreadyPolls script words budget s)
+      → Holds (Ended Ok) (run dueAccess resumed words script budget s .machine .work)
+      (run dueAccess resumed words script budget s .log) (unreadyPolls script words budget s)
   ok-keeps budget s p h e =
       let t : Transfer = run dueAccess resumed words script budget s .machine in
       subst (λ (q : Stage). Holds q (t .work) (run dueAccess resumed words script budget s .log) (unreadyPolls script words budget s))
-      (done-phase (t .phase) (t .work) (t .reset) Ok (ok-done (dueAccess t) e)) (rw (← zero-add (unreadyPolls script words budget s)) (run-keeps budget s 0 p h))
+      (done-phase (t .phase) (t .work) (t .reset) Ok (ok-done (dueAccess t) e))
+      (rw (← zero-add (unreadyPolls script words budget s)) (run-keeps budget s 0 p h))

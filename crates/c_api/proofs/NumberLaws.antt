@@ -1,6 +1,5 @@
--- The numbers of a host. The driver's word: a run that ends with the driver value it was given leaves the word as found, its upper bits too; and the
--- next run takes the value that was left. CCR's word: it gives the clock that it was made of.
--- Assumes nothing.
+-- The numbers of a host. The driver's word: a run that ends with the driver value it was given leaves the word as found, its upper bits
+-- too; and the next run takes the value that was left. CCR's word: it gives the clock that it was made of. Assumes nothing.
 use Prim.Native.Nat.{ℕ, zero, suc, _+_, _*_, _/_, _%_, _<_}
 use mathlib.Core.Bool.{cond}
 use mathlib.Core.List.{List, []}
@@ -64,7 +63,8 @@ pcs-number n = by-select (n % 4) (omega arith)
     by-select (suc (suc (suc (suc s)))) h = absurd (omega arith)
 
 -- a word of these parts
-joined : (e d₀ c₁ c₀ b₀ a₀ w₀ : ℕ) {w a b c d : ℕ} → a * 256 + w₀ ≡ w → b * 256 + a₀ ≡ a → c * 4 + b₀ ≡ b → d * 4 + (c₁ * 2 + c₀) ≡ c → e * 2 + d₀ ≡ d
+joined : (e d₀ c₁ c₀ b₀ a₀ w₀ : ℕ) {w a b c d : ℕ} → a * 256 + w₀ ≡ w → b * 256 + a₀ ≡ a → c * 4 + b₀ ≡ b
+    → d * 4 + (c₁ * 2 + c₀) ≡ c → e * 2 + d₀ ≡ d
     → e * 0x200000 + ((((d₀ * 4 + (c₁ * 2 + c₀)) * 4 + b₀) * 256 + a₀) * 256 + w₀) ≡ w
 joined e d₀ c₁ c₀ b₀ a₀ w₀ p q r s t = omega arith
 
@@ -77,7 +77,8 @@ as-found w =
     let mode : w / 0x100000 * 4 + (w / 0x40000 / 2 % 2 * 2 + w / 0x40000 % 2) ≡ w / 0x40000 = omega arith in
     let order : w / 0x200000 * 2 + w / 0x100000 % 2 ≡ w / 0x100000 = omega arith in
     rw (order-number (w / 0x100000), polarity-number (w / 0x40000), phase-number (w / 0x40000), pcs-number (w / 0x10000))
-    (joined (w / 0x200000) (w / 0x100000 % 2) (w / 0x40000 / 2 % 2) (w / 0x40000 % 2) (w / 0x10000 % 4) (w / 0x100 % 256) (w % 256) sckdiv dbt pcs mode order)
+    (joined (w / 0x200000) (w / 0x100000 % 2) (w / 0x40000 / 2 % 2) (w / 0x40000 % 2) (w / 0x10000 % 4) (w / 0x100 % 256)
+    (w % 256) sckdiv dbt pcs mode order)
 
 -- by a run
 module _ (word : ℕ) where
@@ -88,7 +89,9 @@ module _ (word : ℕ) where
   call-as-found c e = ap (driverLeft word) e ∙ as-found word
 
   -- by a refusal, numbers 5, 1 and 6
-  pub refused-as-found : (e : Ending) (log : List ℕ) → ofCall word (left (record { ending = e; accesses = 0; answers = 0; driver = driverOf word }) log) ≡ hostLeft (numberOf e) word 0 0 log []
+  pub refused-as-found : (e : Ending) (log : List ℕ)
+      → ofCall word (left (record { ending = e; accesses = 0; answers = 0; driver = driverOf word }) log)
+      ≡ hostLeft (numberOf e) word 0 0 log []
   refused-as-found e log = ap (λ (w : ℕ). hostLeft (numberOf e) w 0 0 log []) (as-found word)
 
 -- READ BACK: the next run takes the driver value that was left
@@ -151,10 +154,13 @@ parts e o p h s b v ho hp hh hs hb hv = record {
   sckdiv = omega arith;
 }
 
-alike : {o o′ : BitOrder} {p p′ : Polarity} {h h′ : Phase} {s s′ : Pcs} {b b′ v v′ : ℕ} → o ≡ o′ → p ≡ p′ → h ≡ h′ → s ≡ s′ → b ≡ b′ → v ≡ v′
+alike : {o o′ : BitOrder} {p p′ : Polarity} {h h′ : Phase} {s s′ : Pcs} {b b′ v v′ : ℕ} → o ≡ o′ → p ≡ p′ → h ≡ h′
+    → s ≡ s′ → b ≡ b′ → v ≡ v′
     → made o p h s b v ≡ made o′ p′ h′ s′ b′ v′
 alike {o} {o′} {p} {p′} {h} {h′} {s} {s′} {b} {b′} {v} {v′} eo ep eh es eb ev =
-    ap₂ (λ (x : BitOrder) (y : Polarity). made x y h s b v) eo ep ∙ ap₂ (λ (x : Phase) (y : Pcs). made o′ p′ x y b v) eh es ∙ ap₂ (λ (x y : ℕ). made o′ p′ h′ s′ x y) eb ev
+    ap₂ (λ (x : BitOrder) (y : Polarity). made x y h s b v) eo ep
+    ∙ ap₂ (λ (x : Phase) (y : Pcs). made o′ p′ x y b v) eh es
+    ∙ ap₂ (λ (x y : ℕ). made o′ p′ h′ s′ x y) eb ev
 
 pub driver-back : (word : ℕ) (d : Lpspi) → d .cache .dbt < 256 → d .cache .sckdiv < 256 → driverOf (driverLeft word d) ≡ d
 driver-back word d hb hv =
@@ -162,13 +168,17 @@ driver-back word d hb hv =
     let p = d .mode .polarity in
     let h = d .mode .phase in
     let s = d .pcs in
-    let r = parts (word / 0x200000) (lsbfOf o) (cpolOf p) (cphaOf h) (pcsOf s) (d .cache .dbt) (d .cache .sckdiv) (order-lt o) (polarity-lt p) (phase-lt h) (pcs-lt s) hb hv in
+    let r =
+    parts (word / 0x200000) (lsbfOf o) (cpolOf p) (cphaOf h) (pcsOf s) (d .cache .dbt) (d .cache .sckdiv) (order-lt o)
+    (polarity-lt p) (phase-lt h) (pcs-lt s) hb hv in
     alike (order-back o (r .order)) (polarity-back p (r .polarity)) (phase-back h (r .phase)) (pcs-back s (r .pcs)) (r .dbt) (r .sckdiv)
 
 -- READ BACK, of any four bytes
 pub clock-back : (c : ClockConfigs) → c .sckpcs < 256 → c .pcssck < 256 → c .dbt < 256 → c .sckdiv < 256 → clockFrom (clockWord c) ≡ c
 clock-back c hs hp hd hv = let r = clock-reads c hs hp hd hv in four (r .sckpcs) (r .pcssck) (r .dbt) (r .sckdiv)
   where
-    four : {s p d v : ℕ} → s ≡ c .sckpcs → p ≡ c .pcssck → d ≡ c .dbt → v ≡ c .sckdiv → _≡_ {A = ClockConfigs} (record { sckpcs = s; pcssck = p; dbt = d; sckdiv = v }) c
+    four : {s p d v : ℕ} → s ≡ c .sckpcs → p ≡ c .pcssck → d ≡ c .dbt → v ≡ c .sckdiv
+        → _≡_ {A = ClockConfigs} (record { sckpcs = s; pcssck = p; dbt = d; sckdiv = v }) c
     four {s} {p} es ep ed ev =
-        ap₂ (λ (d v : ℕ). record { sckpcs = s; pcssck = p; dbt = d; sckdiv = v }) ed ev ∙ ap₂ (λ (s p : ℕ). record { sckpcs = s; pcssck = p; dbt = c .dbt; sckdiv = c .sckdiv }) es ep
+        ap₂ (λ (d v : ℕ). record { sckpcs = s; pcssck = p; dbt = d; sckdiv = v }) ed ev
+        ∙ ap₂ (λ (s p : ℕ). record { sckpcs = s; pcssck = p; dbt = c .dbt; sckdiv = c .sckdiv }) es ep

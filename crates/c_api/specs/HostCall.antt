@@ -16,7 +16,10 @@ use Rattle.words.specs.declared.transaction.Transaction.{Transaction}
 use Rattle.words.specs.Command.{flagOf, frameAccepted}
 use Rattle.sequences.specs.declared.access.Ending.the-variants.{Err}
 use Rattle.sequences.specs.Driver.{driverCommand}
-use Rattle.sequences.specs.declared.call.Call.the-variants.{SoftReset, RecoverFromError, Init, GetWatermark, SetWatermark, GetStatus, ClearStatus, IsEnabled, SetEnable, ClearFifo, GetFifoStatus, ReadData, EnqueueData, EnqueueTransaction, SetClockConfigs, SetSamplePoint, SetPeripheralEnable, SetChipSelectPolarity}
+use Rattle.sequences.specs.declared.call.Call.the-variants.{SoftReset, RecoverFromError, Init, GetStatus, ClearStatus}
+use Rattle.sequences.specs.declared.call.Call.the-variants.{IsEnabled, SetEnable, GetWatermark, SetWatermark, ClearFifo}
+use Rattle.sequences.specs.declared.call.Call.the-variants.{GetFifoStatus, ReadData, EnqueueData, EnqueueTransaction, SetClockConfigs}
+use Rattle.sequences.specs.declared.call.Call.the-variants.{SetSamplePoint, SetPeripheralEnable, SetChipSelectPolarity}
 use Rattle.sequences.specs.declared.driver.Lpspi.{Lpspi}
 use Rattle.sequences.specs.declared.settings.PcsPolarity.{PcsPolarity}
 use Rattle.sequences.specs.declared.settings.PcsPolarity.the-variants.{ActiveLow, ActiveHigh}
@@ -56,23 +59,32 @@ pcsPolarityFrom a = cond (odd a) ActiveHigh ActiveLow
 -- the fields of a word of CCR
 abbrev pub clockFrom : ℕ → ClockConfigs
 clockFrom w =
-    record { sckpcs = readField (Ccr SCKPCS) w; pcssck = readField (Ccr PCSSCK) w; dbt = readField (Ccr DBT) w; sckdiv = readField (Ccr SCKDIV) w }
+    record {
+      sckpcs = readField (Ccr SCKPCS) w;
+      pcssck = readField (Ccr PCSSCK) w;
+      dbt = readField (Ccr DBT) w;
+      sckdiv = readField (Ccr SCKDIV) w;
+    }
 
 -- CALLS BY NUMBER
 
 module _ (d : Lpspi) (budget : ℕ) (script log : List ℕ) where
-  -- a command of a bits with the driver's order, mode and chip select; number 1 and all as found where that frame size is refused; 5 comes before it
+  -- a command of a bits with the driver's order, mode and chip select; number 1 and all as found where that frame size is refused; 5 comes
+  -- before it
   abbrev pub enqueueBy : ℕ → Left
   enqueueBy a =
       cond (limits budget log) (overLimits d log)
-      (cond (frameAccepted a) (ranCall (callRun d (EnqueueTransaction (transactionOf (driverCommand d (setField (Tcr FRAMESZ) (a - 1) 0)))) budget script log))
+      (cond (frameAccepted a)
+      (ranCall
+      (callRun d (EnqueueTransaction (transactionOf (driverCommand d (setField (Tcr FRAMESZ) (a - 1) 0)))) budget script log))
       (left (unmoved d (Err FrameSize)) log))
 
   -- the resets, modulo 3
   abbrev pub resetBy : ℕ → Left
   resetBy kind =
       cond (eqb (kind % 3) 0) (ranCall (callRun d SoftReset budget script log))
-      (cond (eqb (kind % 3) 1) (ranCall (callRun d RecoverFromError budget script log)) (ranCall (callRun d Init budget script log)))
+      (cond (eqb (kind % 3) 1) (ranCall (callRun d RecoverFromError budget script log))
+      (ranCall (callRun d Init budget script log)))
 
   -- status, enabled state, FIFOs and data, modulo 5
   abbrev pub setBy : ℕ → ℕ → Left
@@ -88,7 +100,8 @@ module _ (d : Lpspi) (budget : ℕ) (script log : List ℕ) where
       cond (eqb (kind % 5) 0) (setClockHzRun d a b budget script log)
       (cond (eqb (kind % 5) 1) (ranCall (callRun d (SetClockConfigs (clockFrom a)) budget script log))
       (cond (eqb (kind % 5) 2) (ranCall (callRun d (SetSamplePoint (sampleFrom a)) budget script log))
-      (cond (eqb (kind % 5) 3) (ranCall (callRun d (SetPeripheralEnable (odd a)) budget script log)) (ranCall (callRun d (SetChipSelectPolarity (pcsFrom a) (pcsPolarityFrom b)) budget script log)))))
+      (cond (eqb (kind % 5) 3) (ranCall (callRun d (SetPeripheralEnable (odd a)) budget script log))
+      (ranCall (callRun d (SetChipSelectPolarity (pcsFrom a) (pcsPolarityFrom b)) budget script log)))))
 
 -- VALUES AS NUMBERS
 
@@ -108,7 +121,9 @@ module _ (d : Lpspi) (budget : ℕ) (script log : List ℕ) where
   abbrev pub getBy : ℕ → ℕ → ℕ → Answered ℕ
   getBy kind a b =
       cond (eqb (kind % 6) 0) (valued (watermarkIn (directionFrom a)) 0 (callRun d GetWatermark budget script log))
-      (cond (eqb (kind % 6) 1) (valued (levelIn (directionFrom a) (b % 256)) 0 (callRun d (SetWatermark (directionFrom a) (b % 256)) budget script log))
+      (cond (eqb (kind % 6) 1)
+      (valued (levelIn (directionFrom a) (b % 256)) 0
+      (callRun d (SetWatermark (directionFrom a) (b % 256)) budget script log))
       (cond (eqb (kind % 6) 2) (numbered (λ x. x .bits) (valued statusIn noStatus (callRun d GetStatus budget script log)))
       (cond (eqb (kind % 6) 3) (numbered flagOf (valued enabledIn false (callRun d IsEnabled budget script log)))
       (cond (eqb (kind % 6) 4) (numbered fifoNumber (valued fifoIn noFifo (callRun d GetFifoStatus budget script log)))

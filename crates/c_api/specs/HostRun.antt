@@ -1,5 +1,5 @@
--- Runs for a host: the driver value as a number, and what a run leaves: a number that is returned, the next driver value, two counts and a value
--- where they go, the log and the buffer.
+-- Runs for a host: the driver value as a number, and what a run leaves: a number that is returned, the next driver value, two counts and a
+-- value where they go, the log and the buffer.
 -- Assumes nothing.
 use Prim.Native.Nat.{ℕ, _+_, _*_, _/_, _%_}
 use mathlib.Core.Bool.{cond}
@@ -46,15 +46,18 @@ hostLeft number driver accesses answers log buffer =
 -- `word` is the driver's before the run
 abbrev pub ofTransfer : ℕ → TransferLeft → HostLeft
 ofTransfer word t =
-    hostLeft (t .call .number) (driverLeft word (t .call .result .driver)) (t .call .result .accesses) (t .call .result .answers) (t .call .log) (t .buffer)
+    hostLeft (t .call .number) (driverLeft word (t .call .result .driver)) (t .call .result .accesses)
+    (t .call .result .answers) (t .call .log) (t .buffer)
 
 -- a call without a buffer
 abbrev pub ofCall : ℕ → Left → HostLeft
 ofCall word c = hostLeft (c .number) (driverLeft word (c .result .driver)) (c .result .accesses) (c .result .answers) (c .log) []
 
--- the transfers by number, modulo 4: 0 separate, 1 in place (the read buffer), 2 write only, which leaves the read buffer as found, 3 read only
+-- the transfers by number, modulo 4: 0 separate, 1 in place (the read buffer), 2 write only, which leaves the read buffer as found,
+-- 3 read only
 abbrev pub transferBy : ℕ → ℕ → Lpspi → List ℕ → List ℕ → ℕ → List ℕ → List ℕ → TransferLeft
 transferBy kind k d read write budget script log =
     cond (eqb (kind % 4) 0) (exchangeSeparate k d read write budget script log)
     (cond (eqb (kind % 4) 1) (exchange k d read budget script log)
-    (cond (eqb (kind % 4) 2) (record { call = writeNoRead k d write budget script log .call; buffer = read }) (readNoWrite k d read budget script log)))
+    (cond (eqb (kind % 4) 2) (record { call = writeNoRead k d write budget script log .call; buffer = read })
+    (readNoWrite k d read budget script log)))

@@ -1,5 +1,5 @@
-// The other calls over a script, by number: the number of the result, with the next driver value, the accesses made and the answers used where
-// they go.
+// The other calls over a script, by number: the number of the result, with the next driver value, the accesses made and the answers used
+// where they go.
 ghost use mathlib.Core.Path.{_≡_};
 ghost use mathlib.Core.List.{[]};
 ghost use Rattle.runs.specs.Run.{left};
@@ -7,7 +7,8 @@ ghost use Rattle.calls.specs.Calls.{valueLeft};
 ghost use Rattle.calls.specs.Values.{wordsOf};
 ghost use Rattle.words.specs.Command.{flagOf};
 ghost use Rattle.c_api.specs.HostRun.{driverOf, hostLeft, ofCall};
-ghost use Rattle.c_api.specs.HostCall.{odd, directionFrom, sampleFrom, pcsPolarityFrom, clockFrom, enqueueBy, resetBy, setBy, disabledBy, fifoNumber, wordsNumber, getBy, hostValue, ofAnswered};
+ghost use Rattle.c_api.specs.HostCall.{odd, directionFrom, sampleFrom, pcsPolarityFrom, clockFrom, fifoNumber, wordsNumber};
+ghost use Rattle.c_api.specs.HostCall.{enqueueBy, resetBy, setBy, disabledBy, getBy, hostValue, ofAnswered};
 use crate::command::command_of;
 use crate::command::pcs_of;
 use crate::driver::driver_of;
@@ -120,7 +121,8 @@ fn enqueue(
     script: &[u32],
     log: &mut [u32],
 ) -> RunResult
-    ensures { λ r. ⌜ left r (now (log .exit)) ≡ enqueueBy driver budget (now (script .entry)) (now (log .entry)) «frame_size» ⌝ }
+    ensures { λ r. ⌜ left r (now (log .exit))
+        ≡ enqueueBy driver budget (now (script .entry)) (now (log .entry)) «frame_size» ⌝ }
 {
     if limits(budget, log) {
         return RunResult::unmoved(driver, Ending::Limits);
@@ -166,7 +168,8 @@ fn disabled(
     script: &[u32],
     log: &mut [u32],
 ) -> RunResult
-    ensures { λ r. ⌜ left r (now (log .exit)) ≡ disabledBy driver budget (now (script .entry)) (now (log .entry)) kind a b ⌝ }
+    ensures { λ r. ⌜ left r (now (log .exit))
+        ≡ disabledBy driver budget (now (script .entry)) (now (log .entry)) kind a b ⌝ }
 {
     let n = kind % 5;
     if n == 0 {
@@ -274,7 +277,8 @@ fn get(
     script: &[u32],
     log: &mut [u32],
 ) -> Got
-    ensures { λ r. ⌜ valueLeft (r .result) (r .value) (now (log .exit)) ≡ getBy driver budget (now (script .entry)) (now (log .entry)) kind a b ⌝ }
+    ensures { λ r. ⌜ valueLeft (r .result) (r .value) (now (log .exit))
+        ≡ getBy driver budget (now (script .entry)) (now (log .entry)) kind a b ⌝ }
 {
     let n = kind % 6;
     if n == 0 {
@@ -306,7 +310,9 @@ pub extern "C" fn lpspi_reset(
     accesses: &mut usize,
     answers: &mut usize,
 ) -> u32
-    ensures { λ r. ⌜ hostLeft r (now (driver .exit)) (now (accesses .exit)) (now (answers .exit)) (now (log .exit)) [] ≡ ofCall (now (driver .entry)) (resetBy (driverOf (now (driver .entry))) budget (now (script .entry)) (now (log .entry)) kind) ⌝ }
+    ensures { λ r. ⌜ hostLeft r (now (driver .exit)) (now (accesses .exit)) (now (answers .exit)) (now (log .exit)) []
+        ≡ ofCall (now (driver .entry))
+        (resetBy (driverOf (now (driver .entry))) budget (now (script .entry)) (now (log .entry)) kind) ⌝ }
 {
     let d = driver_of(*driver);
     let r = reset(kind, d, budget, script, log);
@@ -324,7 +330,9 @@ pub extern "C" fn lpspi_set(
     accesses: &mut usize,
     answers: &mut usize,
 ) -> u32
-    ensures { λ r. ⌜ hostLeft r (now (driver .exit)) (now (accesses .exit)) (now (answers .exit)) (now (log .exit)) [] ≡ ofCall (now (driver .entry)) (setBy (driverOf (now (driver .entry))) budget (now (script .entry)) (now (log .entry)) kind a) ⌝ }
+    ensures { λ r. ⌜ hostLeft r (now (driver .exit)) (now (accesses .exit)) (now (answers .exit)) (now (log .exit)) []
+        ≡ ofCall (now (driver .entry))
+        (setBy (driverOf (now (driver .entry))) budget (now (script .entry)) (now (log .entry)) kind a) ⌝ }
 {
     let d = driver_of(*driver);
     let r = set(kind, a, d, budget, script, log);
@@ -343,7 +351,9 @@ pub extern "C" fn lpspi_disabled(
     accesses: &mut usize,
     answers: &mut usize,
 ) -> u32
-    ensures { λ r. ⌜ hostLeft r (now (driver .exit)) (now (accesses .exit)) (now (answers .exit)) (now (log .exit)) [] ≡ ofCall (now (driver .entry)) (disabledBy (driverOf (now (driver .entry))) budget (now (script .entry)) (now (log .entry)) kind a b) ⌝ }
+    ensures { λ r. ⌜ hostLeft r (now (driver .exit)) (now (accesses .exit)) (now (answers .exit)) (now (log .exit)) []
+        ≡ ofCall (now (driver .entry))
+        (disabledBy (driverOf (now (driver .entry))) budget (now (script .entry)) (now (log .entry)) kind a b) ⌝ }
 {
     let d = driver_of(*driver);
     let r = disabled(kind, a, b, d, budget, script, log);
@@ -364,7 +374,10 @@ pub extern "C" fn lpspi_get(
     answers: &mut usize,
     value: &mut u64,
 ) -> u32
-    ensures { λ r. ⌜ hostValue r (now (driver .exit)) (now (accesses .exit)) (now (answers .exit)) (now (value .exit)) (now (log .exit)) ≡ ofAnswered (now (driver .entry)) (getBy (driverOf (now (driver .entry))) budget (now (script .entry)) (now (log .entry)) kind a b) ⌝ }
+    ensures { λ r. ⌜ hostValue r (now (driver .exit)) (now (accesses .exit)) (now (answers .exit))
+        (now (value .exit)) (now (log .exit))
+        ≡ ofAnswered (now (driver .entry))
+        (getBy (driverOf (now (driver .entry))) budget (now (script .entry)) (now (log .entry)) kind a b) ⌝ }
 {
     let d = driver_of(*driver);
     let got = get(kind, a, b, d, budget, script, log);

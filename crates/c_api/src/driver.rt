@@ -61,7 +61,8 @@ pub(crate) fn hand_back(
     accesses: &mut usize,
     answers: &mut usize,
 ) -> u32
-    ensures { λ n. ⌜ hostLeft n (now (driver .exit)) (now (accesses .exit)) (now (answers .exit)) [] [] ≡ ofCall (now (driver .entry)) (left r []) ⌝ }
+    ensures { λ n. ⌜ hostLeft n (now (driver .exit)) (now (accesses .exit)) (now (answers .exit)) [] []
+        ≡ ofCall (now (driver .entry)) (left r []) ⌝ }
 {
     *driver = driver_left(*driver, r.driver);
     *accesses = r.accesses;

@@ -32,7 +32,9 @@ fn transfer_u8(
     script: &[u32],
     log: &mut [u32],
 ) -> RunResult
-    ensures { λ r. ⌜ transferLeft r (now (log .exit)) (now (read .exit)) ≡ transferBy kind 8 driver (now (read .entry)) (now (write .entry)) budget (now (script .entry)) (now (log .entry)) ⌝ }
+    ensures { λ r. ⌜ transferLeft r (now (log .exit)) (now (read .exit))
+        ≡ transferBy kind 8 driver (now (read .entry)) (now (write .entry))
+        budget (now (script .entry)) (now (log .entry)) ⌝ }
 {
     let n = kind % 4;
     if n == 0 {
@@ -59,7 +61,11 @@ pub extern "C" fn lpspi_transfer_u8(
     accesses: &mut usize,
     answers: &mut usize,
 ) -> u32
-    ensures { λ r. ⌜ hostLeft r (now (driver .exit)) (now (accesses .exit)) (now (answers .exit)) (now (log .exit)) (now (read .exit)) ≡ ofTransfer (now (driver .entry)) (transferBy kind 8 (driverOf (now (driver .entry))) (now (read .entry)) (now (write .entry)) budget (now (script .entry)) (now (log .entry))) ⌝ }
+    ensures { λ r. ⌜ hostLeft r (now (driver .exit)) (now (accesses .exit)) (now (answers .exit))
+        (now (log .exit)) (now (read .exit))
+        ≡ ofTransfer (now (driver .entry))
+        (transferBy kind 8 (driverOf (now (driver .entry))) (now (read .entry)) (now (write .entry))
+        budget (now (script .entry)) (now (log .entry))) ⌝ }
 {
     let d = driver_of(*driver);
     let r = transfer_u8(kind, d, read, write, budget, script, log);
@@ -76,7 +82,9 @@ fn transfer_u16(
     script: &[u32],
     log: &mut [u32],
 ) -> RunResult
-    ensures { λ r. ⌜ transferLeft r (now (log .exit)) (now (read .exit)) ≡ transferBy kind 16 driver (now (read .entry)) (now (write .entry)) budget (now (script .entry)) (now (log .entry)) ⌝ }
+    ensures { λ r. ⌜ transferLeft r (now (log .exit)) (now (read .exit))
+        ≡ transferBy kind 16 driver (now (read .entry)) (now (write .entry))
+        budget (now (script .entry)) (now (log .entry)) ⌝ }
 {
     let n = kind % 4;
     if n == 0 {
@@ -103,7 +111,11 @@ pub extern "C" fn lpspi_transfer_u16(
     accesses: &mut usize,
     answers: &mut usize,
 ) -> u32
-    ensures { λ r. ⌜ hostLeft r (now (driver .exit)) (now (accesses .exit)) (now (answers .exit)) (now (log .exit)) (now (read .exit)) ≡ ofTransfer (now (driver .entry)) (transferBy kind 16 (driverOf (now (driver .entry))) (now (read .entry)) (now (write .entry)) budget (now (script .entry)) (now (log .entry))) ⌝ }
+    ensures { λ r. ⌜ hostLeft r (now (driver .exit)) (now (accesses .exit)) (now (answers .exit))
+        (now (log .exit)) (now (read .exit))
+        ≡ ofTransfer (now (driver .entry))
+        (transferBy kind 16 (driverOf (now (driver .entry))) (now (read .entry)) (now (write .entry))
+        budget (now (script .entry)) (now (log .entry))) ⌝ }
 {
     let d = driver_of(*driver);
     let r = transfer_u16(kind, d, read, write, budget, script, log);
@@ -120,7 +132,9 @@ fn transfer_u32(
     script: &[u32],
     log: &mut [u32],
 ) -> RunResult
-    ensures { λ r. ⌜ transferLeft r (now (log .exit)) (now (read .exit)) ≡ transferBy kind 32 driver (now (read .entry)) (now (write .entry)) budget (now (script .entry)) (now (log .entry)) ⌝ }
+    ensures { λ r. ⌜ transferLeft r (now (log .exit)) (now (read .exit))
+        ≡ transferBy kind 32 driver (now (read .entry)) (now (write .entry))
+        budget (now (script .entry)) (now (log .entry)) ⌝ }
 {
     let n = kind % 4;
     if n == 0 {
@@ -147,7 +161,11 @@ pub extern "C" fn lpspi_transfer_u32(
     accesses: &mut usize,
     answers: &mut usize,
 ) -> u32
-    ensures { λ r. ⌜ hostLeft r (now (driver .exit)) (now (accesses .exit)) (now (answers .exit)) (now (log .exit)) (now (read .exit)) ≡ ofTransfer (now (driver .entry)) (transferBy kind 32 (driverOf (now (driver .entry))) (now (read .entry)) (now (write .entry)) budget (now (script .entry)) (now (log .entry))) ⌝ }
+    ensures { λ r. ⌜ hostLeft r (now (driver .exit)) (now (accesses .exit)) (now (answers .exit))
+        (now (log .exit)) (now (read .exit))
+        ≡ ofTransfer (now (driver .entry))
+        (transferBy kind 32 (driverOf (now (driver .entry))) (now (read .entry)) (now (write .entry))
+        budget (now (script .entry)) (now (log .entry))) ⌝ }
 {
     let d = driver_of(*driver);
     let r = transfer_u32(kind, d, read, write, budget, script, log);
@@ -163,7 +181,9 @@ pub extern "C" fn lpspi_flush(
     accesses: &mut usize,
     answers: &mut usize,
 ) -> u32
-    ensures { λ r. ⌜ hostLeft r (now (driver .exit)) (now (accesses .exit)) (now (answers .exit)) (now (log .exit)) [] ≡ ofCall (now (driver .entry)) (flushRun (driverOf (now (driver .entry))) budget (now (script .entry)) (now (log .entry))) ⌝ }
+    ensures { λ r. ⌜ hostLeft r (now (driver .exit)) (now (accesses .exit)) (now (answers .exit)) (now (log .exit)) []
+        ≡ ofCall (now (driver .entry))
+        (flushRun (driverOf (now (driver .entry))) budget (now (script .entry)) (now (log .entry))) ⌝ }
 {
     let d = driver_of(*driver);
     let r = flush(d, budget, script, log);

@@ -32,7 +32,8 @@ module _ {called : Called} {log : List ℕ} {x : CallLeft} (e : callLeft called 
   ran-call er = ap (λ (y : RunResult). left y log) er ∙ ap ranCall e
 
   -- a call with one: its value where it came to its end, none where it was refused or stopped
-  module _ {A : Type 0} (value : Sequence → A) (none : A) {r : RunResult} {v : A} {ok : Bool} (er : r ≡ calledResult called) (eo : ok ≡ eqb (numberOf (called .ending)) 0) where
+  module _ {A : Type 0} (value : Sequence → A) (none : A) {r : RunResult} {v : A} {ok : Bool} (er : r ≡ calledResult called)
+      (eo : ok ≡ eqb (numberOf (called .ending)) 0) where
     by-ending : (b : Bool) → ok ≡ b → v ≡ cond b (value (called .sequence)) none → valueLeft r v log ≡ valued value none x
     by-ending b t ev =
         ap₂ (λ (y : RunResult) (w : A). valueLeft y w log) er ev
@@ -52,14 +53,16 @@ water-small Rx w = omega (arith, mod-lt (w / 2 ^ 16) (pow-pos 4))
 
 -- `set_clock_hz`, by the answer of the clock entry
 abbrev chosen : Lpspi → ℕ → List ℕ → List ℕ → ClockAnswer → Left
-chosen d budget script log a = cond (eqb (a .number) 0) (ranCall (callRun d (SetClockConfigs (a .configs)) budget script log)) (clockRefused d log)
+chosen d budget script log a =
+    cond (eqb (a .number) 0) (ranCall (callRun d (SetClockConfigs (a .configs)) budget script log)) (clockRefused d log)
 
 module _ (d : Lpspi) (source clock budget : ℕ) (script log : List ℕ) {r : RunResult} where
   pub clock-limits : limits budget log ≡ true → r ≡ overLimits d log .result → left r log ≡ setClockHzRun d source clock budget script log
   clock-limits t er = rw t (ap (λ (x : RunResult). left x log) er)
 
   module _ (x : ClockResult) (t : limits budget log ≡ false) (ex : clockAnswer x ≡ clocked source clock) where
-    by-answer : {log′ : List ℕ} → left r log′ ≡ chosen d budget script log (clockAnswer x) → left r log′ ≡ setClockHzRun d source clock budget script log
+    by-answer : {log′ : List ℕ} → left r log′ ≡ chosen d budget script log (clockAnswer x)
+        → left r log′ ≡ setClockHzRun d source clock budget script log
     by-answer e = rw t (e ∙ ap (chosen d budget script log) ex)
 
     pub clock-run : {log′ : List ℕ} {k : ClockConfigs} → x ≡ Ok k → left r log′ ≡ ranCall (callRun d (SetClockConfigs k) budget script log)
@@ -67,4 +70,6 @@ module _ (d : Lpspi) (source clock budget : ℕ) (script log : List ℕ) {r : Ru
     clock-run told e = by-answer (e ∙ ap (λ (y : ClockResult). chosen d budget script log (clockAnswer y)) (sym told))
 
     pub clock-zero : x ≡ ZeroClock → r ≡ clockRefused d log .result → left r log ≡ setClockHzRun d source clock budget script log
-    clock-zero told er = by-answer (ap (λ (y : RunResult). left y log) er ∙ ap (λ (y : ClockResult). chosen d budget script log (clockAnswer y)) (sym told))
+    clock-zero told er =
+        by-answer
+        (ap (λ (y : RunResult). left y log) er ∙ ap (λ (y : ClockResult). chosen d budget script log (clockAnswer y)) (sym told))

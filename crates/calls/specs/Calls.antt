@@ -39,4 +39,6 @@ clockRefused d log = left (unmoved d ZeroClock) log
 abbrev pub setClockHzRun : Lpspi → ℕ → ℕ → ℕ → List ℕ → List ℕ → Left
 setClockHzRun d source clock budget script log =
     cond (limits budget log) (overLimits d log)
-    (cond (eqb (clocked source clock .number) 0) (ranCall (callRun d (SetClockConfigs (clocked source clock .configs)) budget script log)) (clockRefused d log))
+    (cond (eqb (clocked source clock .number) 0)
+    (ranCall (callRun d (SetClockConfigs (clocked source clock .configs)) budget script log))
+    (clockRefused d log))

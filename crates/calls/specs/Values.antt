@@ -39,7 +39,12 @@ enabledIn s = eqb (readField (Cr MEN) (s .held)) 1
 -- PARAM's fields, as the Rust takes them for capacities
 abbrev pub fifoStatus : ℕ → ℕ → FifoStatus
 fifoStatus param counts =
-    record { rxcount = readField (Fsr RXCOUNT) counts; txcount = readField (Fsr TXCOUNT) counts; rxcap = depth (readField (Param RXFIFO) param); txcap = depth (readField (Param TXFIFO) param) }
+    record {
+      rxcount = readField (Fsr RXCOUNT) counts;
+      txcount = readField (Fsr TXCOUNT) counts;
+      rxcap = depth (readField (Param RXFIFO) param);
+      txcap = depth (readField (Param TXFIFO) param);
+    }
 
 abbrev pub fifoIn : Sequence → FifoStatus
 fifoIn s = fifoStatus (keptOf PARAM (s .kept)) (s .held)

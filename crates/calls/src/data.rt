@@ -31,7 +31,8 @@ fn data(sequence: Sequence) -> Data
 
 // A received word; none where the receive FIFO is empty.
 pub fn read_data(driver: Lpspi, budget: usize, script: &[u32], log: &mut [u32]) -> DataResult
-    ensures { λ r. ⌜ valueLeft (r .result) (wordsOf (r .data)) (now (log .exit)) ≡ valued dataIn [] (callRun driver ReadData budget (now (script .entry)) (now (log .entry))) ⌝ }
+    ensures { λ r. ⌜ valueLeft (r .result) (wordsOf (r .data)) (now (log .exit))
+        ≡ valued dataIn [] (callRun driver ReadData budget (now (script .entry)) (now (log .entry))) ⌝ }
 {
     let called = run_call(driver, Call::ReadData, budget, script, log);
     if is_ok(called) {
@@ -55,7 +56,8 @@ pub fn enqueue_data(
     script: &[u32],
     log: &mut [u32],
 ) -> RunResult
-    ensures { λ r. ⌜ left r (now (log .exit)) ≡ ranCall (callRun driver (EnqueueData word) budget (now (script .entry)) (now (log .entry))) ⌝ }
+    ensures { λ r. ⌜ left r (now (log .exit))
+        ≡ ranCall (callRun driver (EnqueueData word) budget (now (script .entry)) (now (log .entry))) ⌝ }
 {
     result(run_call(driver, Call::EnqueueData(word), budget, script, log))
 }
@@ -68,7 +70,8 @@ pub fn enqueue_transaction(
     script: &[u32],
     log: &mut [u32],
 ) -> RunResult
-    ensures { λ r. ⌜ left r (now (log .exit)) ≡ ranCall (callRun driver (EnqueueTransaction transaction) budget (now (script .entry)) (now (log .entry))) ⌝ }
+    ensures { λ r. ⌜ left r (now (log .exit))
+        ≡ ranCall (callRun driver (EnqueueTransaction transaction) budget (now (script .entry)) (now (log .entry))) ⌝ }
 {
     result(run_call(
         driver,

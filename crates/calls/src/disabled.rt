@@ -1,6 +1,7 @@
 // Settings that are changed while the peripheral is disabled: entry, operation, restore of MEN.
 ghost use mathlib.Core.Path.{_≡_};
-ghost use Rattle.sequences.specs.declared.call.Call.the-variants.{SetClockConfigs, SetSamplePoint, SetPeripheralEnable, SetChipSelectPolarity};
+ghost use Rattle.sequences.specs.declared.call.Call.the-variants.{SetClockConfigs, SetSamplePoint};
+ghost use Rattle.sequences.specs.declared.call.Call.the-variants.{SetPeripheralEnable, SetChipSelectPolarity};
 ghost use Rattle.runs.specs.Run.{left};
 ghost use Rattle.runs.specs.Call.{callRun};
 ghost use Rattle.calls.specs.Calls.{ranCall, setClockHzRun};
@@ -26,7 +27,8 @@ pub fn set_clock_hz(
     script: &[u32],
     log: &mut [u32],
 ) -> RunResult
-    ensures { λ r. ⌜ left r (now (log .exit)) ≡ setClockHzRun driver «source_clock_hz» «clock_hz» budget (now (script .entry)) (now (log .entry)) ⌝ }
+    ensures { λ r. ⌜ left r (now (log .exit))
+        ≡ setClockHzRun driver «source_clock_hz» «clock_hz» budget (now (script .entry)) (now (log .entry)) ⌝ }
 {
     if limits(budget, log) {
         return RunResult::unmoved(driver, Ending::Limits);
@@ -46,7 +48,8 @@ pub fn set_clock_configs(
     script: &[u32],
     log: &mut [u32],
 ) -> RunResult
-    ensures { λ r. ⌜ left r (now (log .exit)) ≡ ranCall (callRun driver (SetClockConfigs timing) budget (now (script .entry)) (now (log .entry))) ⌝ }
+    ensures { λ r. ⌜ left r (now (log .exit))
+        ≡ ranCall (callRun driver (SetClockConfigs timing) budget (now (script .entry)) (now (log .entry))) ⌝ }
 {
     result(run_call(driver, Call::SetClockConfigs(timing), budget, script, log))
 }
@@ -58,7 +61,8 @@ pub fn set_sample_point(
     script: &[u32],
     log: &mut [u32],
 ) -> RunResult
-    ensures { λ r. ⌜ left r (now (log .exit)) ≡ ranCall (callRun driver (SetSamplePoint «sample_point») budget (now (script .entry)) (now (log .entry))) ⌝ }
+    ensures { λ r. ⌜ left r (now (log .exit))
+        ≡ ranCall (callRun driver (SetSamplePoint «sample_point») budget (now (script .entry)) (now (log .entry))) ⌝ }
 {
     result(run_call(
         driver,
@@ -77,7 +81,8 @@ pub fn set_peripheral_enable(
     script: &[u32],
     log: &mut [u32],
 ) -> RunResult
-    ensures { λ r. ⌜ left r (now (log .exit)) ≡ ranCall (callRun driver (SetPeripheralEnable enable) budget (now (script .entry)) (now (log .entry))) ⌝ }
+    ensures { λ r. ⌜ left r (now (log .exit))
+        ≡ ranCall (callRun driver (SetPeripheralEnable enable) budget (now (script .entry)) (now (log .entry))) ⌝ }
 {
     result(run_call(
         driver,
@@ -96,7 +101,9 @@ pub fn set_chip_select_polarity(
     script: &[u32],
     log: &mut [u32],
 ) -> RunResult
-    ensures { λ r. ⌜ left r (now (log .exit)) ≡ ranCall (callRun driver (SetChipSelectPolarity pcs polarity) budget (now (script .entry)) (now (log .entry))) ⌝ }
+    ensures { λ r. ⌜ left r (now (log .exit))
+        ≡ ranCall
+        (callRun driver (SetChipSelectPolarity pcs polarity) budget (now (script .entry)) (now (log .entry))) ⌝ }
 {
     result(run_call(
         driver,

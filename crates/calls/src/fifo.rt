@@ -31,7 +31,9 @@ pub fn watermark(
     script: &[u32],
     log: &mut [u32],
 ) -> LevelResult
-    ensures { λ r. ⌜ valueLeft (r .result) (r .level) (now (log .exit)) ≡ valued (watermarkIn direction) 0 (callRun driver GetWatermark budget (now (script .entry)) (now (log .entry))) ⌝ }
+    ensures { λ r. ⌜ valueLeft (r .result) (r .level) (now (log .exit))
+        ≡ valued (watermarkIn direction) 0
+        (callRun driver GetWatermark budget (now (script .entry)) (now (log .entry))) ⌝ }
 {
     let called = run_call(driver, Call::GetWatermark, budget, script, log);
     if is_ok(called) {
@@ -56,7 +58,9 @@ pub fn set_watermark(
     script: &[u32],
     log: &mut [u32],
 ) -> LevelResult
-    ensures { λ r. ⌜ valueLeft (r .result) (r .level) (now (log .exit)) ≡ valued (levelIn direction watermark) 0 (callRun driver (SetWatermark direction watermark) budget (now (script .entry)) (now (log .entry))) ⌝ }
+    ensures { λ r. ⌜ valueLeft (r .result) (r .level) (now (log .exit))
+        ≡ valued (levelIn direction watermark) 0
+        (callRun driver (SetWatermark direction watermark) budget (now (script .entry)) (now (log .entry))) ⌝ }
 {
     let called = run_call(
         driver,
@@ -85,7 +89,8 @@ pub fn clear_fifo(
     script: &[u32],
     log: &mut [u32],
 ) -> RunResult
-    ensures { λ r. ⌜ left r (now (log .exit)) ≡ ranCall (callRun driver (ClearFifo direction) budget (now (script .entry)) (now (log .entry))) ⌝ }
+    ensures { λ r. ⌜ left r (now (log .exit))
+        ≡ ranCall (callRun driver (ClearFifo direction) budget (now (script .entry)) (now (log .entry))) ⌝ }
 {
     result(run_call(driver, Call::ClearFifo(direction), budget, script, log))
 }
@@ -103,7 +108,8 @@ fn fifo(param: u32, counts: u32) -> FifoStatus
 
 // The counts and capacities of the FIFOs.
 pub fn fifo_status(driver: Lpspi, budget: usize, script: &[u32], log: &mut [u32]) -> FifoResult
-    ensures { λ r. ⌜ valueLeft (r .result) (r .fifo) (now (log .exit)) ≡ valued fifoIn noFifo (callRun driver GetFifoStatus budget (now (script .entry)) (now (log .entry))) ⌝ }
+    ensures { λ r. ⌜ valueLeft (r .result) (r .fifo) (now (log .exit))
+        ≡ valued fifoIn noFifo (callRun driver GetFifoStatus budget (now (script .entry)) (now (log .entry))) ⌝ }
 {
     let called = run_call(driver, Call::GetFifoStatus, budget, script, log);
     if is_ok(called) {

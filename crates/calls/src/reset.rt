@@ -12,7 +12,8 @@ use sequences::driver::Lpspi;
 
 // Reset all internal logic while preserving the driver's configurations.
 pub fn soft_reset(driver: Lpspi, budget: usize, script: &[u32], log: &mut [u32]) -> RunResult
-    ensures { λ r. ⌜ left r (now (log .exit)) ≡ ranCall (callRun driver SoftReset budget (now (script .entry)) (now (log .entry))) ⌝ }
+    ensures { λ r. ⌜ left r (now (log .exit))
+        ≡ ranCall (callRun driver SoftReset budget (now (script .entry)) (now (log .entry))) ⌝ }
 {
     result(run_call(driver, Call::SoftReset, budget, script, log))
 }
@@ -24,14 +25,16 @@ pub fn recover_from_error(
     script: &[u32],
     log: &mut [u32],
 ) -> RunResult
-    ensures { λ r. ⌜ left r (now (log .exit)) ≡ ranCall (callRun driver RecoverFromError budget (now (script .entry)) (now (log .entry))) ⌝ }
+    ensures { λ r. ⌜ left r (now (log .exit))
+        ≡ ranCall (callRun driver RecoverFromError budget (now (script .entry)) (now (log .entry))) ⌝ }
 {
     result(run_call(driver, Call::RecoverFromError, budget, script, log))
 }
 
 // The peripheral from its reset to its enabled state. With number 5 the driver value is the one given, past it the starting one.
 pub fn init(driver: Lpspi, budget: usize, script: &[u32], log: &mut [u32]) -> RunResult
-    ensures { λ r. ⌜ left r (now (log .exit)) ≡ ranCall (callRun driver Init budget (now (script .entry)) (now (log .entry))) ⌝ }
+    ensures { λ r. ⌜ left r (now (log .exit))
+        ≡ ranCall (callRun driver Init budget (now (script .entry)) (now (log .entry))) ⌝ }
 {
     result(run_call(driver, Call::Init, budget, script, log))
 }

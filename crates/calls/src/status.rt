@@ -20,7 +20,8 @@ use sequences::status::Status;
 
 // The status flags.
 pub fn status(driver: Lpspi, budget: usize, script: &[u32], log: &mut [u32]) -> StatusResult
-    ensures { λ r. ⌜ valueLeft (r .result) (r .status) (now (log .exit)) ≡ valued statusIn noStatus (callRun driver GetStatus budget (now (script .entry)) (now (log .entry))) ⌝ }
+    ensures { λ r. ⌜ valueLeft (r .result) (r .status) (now (log .exit))
+        ≡ valued statusIn noStatus (callRun driver GetStatus budget (now (script .entry)) (now (log .entry))) ⌝ }
 {
     let called = run_call(driver, Call::GetStatus, budget, script, log);
     if is_ok(called) {
@@ -44,14 +45,16 @@ pub fn clear_status(
     script: &[u32],
     log: &mut [u32],
 ) -> RunResult
-    ensures { λ r. ⌜ left r (now (log .exit)) ≡ ranCall (callRun driver (ClearStatus flags) budget (now (script .entry)) (now (log .entry))) ⌝ }
+    ensures { λ r. ⌜ left r (now (log .exit))
+        ≡ ranCall (callRun driver (ClearStatus flags) budget (now (script .entry)) (now (log .entry))) ⌝ }
 {
     result(run_call(driver, Call::ClearStatus(flags), budget, script, log))
 }
 
 // The peripheral is enabled.
 pub fn is_enabled(driver: Lpspi, budget: usize, script: &[u32], log: &mut [u32]) -> EnabledResult
-    ensures { λ r. ⌜ valueLeft (r .result) (r .enabled) (now (log .exit)) ≡ valued enabledIn false (callRun driver IsEnabled budget (now (script .entry)) (now (log .entry))) ⌝ }
+    ensures { λ r. ⌜ valueLeft (r .result) (r .enabled) (now (log .exit))
+        ≡ valued enabledIn false (callRun driver IsEnabled budget (now (script .entry)) (now (log .entry))) ⌝ }
 {
     let called = run_call(driver, Call::IsEnabled, budget, script, log);
     if is_ok(called) {
@@ -74,7 +77,8 @@ pub fn set_enable(
     script: &[u32],
     log: &mut [u32],
 ) -> RunResult
-    ensures { λ r. ⌜ left r (now (log .exit)) ≡ ranCall (callRun driver (SetEnable enable) budget (now (script .entry)) (now (log .entry))) ⌝ }
+    ensures { λ r. ⌜ left r (now (log .exit))
+        ≡ ranCall (callRun driver (SetEnable enable) budget (now (script .entry)) (now (log .entry))) ⌝ }
 {
     result(run_call(driver, Call::SetEnable(enable), budget, script, log))
 }

@@ -1,8 +1,8 @@
--- The P cases of document 01, a row each, in its order: four of words, seven of commands, two of clocks, one of `buslog`. What the definitions give stands
--- beside what 01 says. A row is two lists of numbers: words, or a result number and its word, or bytes.
+-- The P cases of document 01, a row each, in its order: four of words, seven of commands, two of clocks, one of `buslog`. What the
+-- definitions give stands beside what 01 says. A row is two lists of numbers: words, or a result number and its word, or bytes.
 -- Assumes nothing.
 use Prim.Native.Nat.{ℕ}
-use mathlib.Core.List.{List, [], _∷_}
+use mathlib.Core.List.{List, [], _∷_, _++_}
 use mathlib.Core.Path.{_≡_}
 use Rattle.words.specs.declared.order.BitOrder.the-variants.{Msb, Lsb}
 use Rattle.words.specs.declared.mode.Mode.{Mode}
@@ -52,7 +52,9 @@ cases =
     ∷ row (clock (clocked 60_000_000 4_000_000)) (0 ∷ 0x0707070E ∷ [])
     ∷ row (clock (clocked 60_000_000 100_000)) (0 ∷ 0x7F7F7FFE ∷ [])
     ∷ row (buslog (bytes "8 M 20\nA5\n1\n0 404 0 0 404 0 0 404 10000 5A\n"))
-    (bytes "R 14 00000000\nR 04 00000404\nR 5C 00000000\nW 60 00000007\nR 14 00000000\nR 04 00000404\nR 5C 00000000\nW 64 000000A5\nR 14 00000000\nR 04 00000404\nR 5C 00010000\nR 74 0000005A\n5A\n0 12 10\n")
+    (bytes "R 14 00000000\nR 04 00000404\nR 5C 00000000\nW 60 00000007\n"
+    ++ (bytes "R 14 00000000\nR 04 00000404\nR 5C 00000000\nW 64 000000A5\n"
+    ++ bytes "R 14 00000000\nR 04 00000404\nR 5C 00010000\nR 74 0000005A\n5A\n0 12 10\n"))
     ∷ []
 
 -- in every row the definitions give what 01 says

@@ -24,7 +24,8 @@ togo-start k most (b ∷ bs) h = refl
 pub togo-bad : (k most : ℕ) (before f : List ℕ) (fs : List (List ℕ)) → element k f ≡ none → togo k most before (f ∷ fs) ≡ none
 togo-bad k most before f fs e = rw e
 
-pub togo-more : (k most x : ℕ) (before f : List ℕ) (fs : List (List ℕ)) → element k f ≡ some x → togo k most before (f ∷ fs) ≡ togo k most (before ++ (x ∷ [])) fs
+pub togo-more : (k most x : ℕ) (before f : List ℕ) (fs : List (List ℕ)) → element k f ≡ some x
+    → togo k most before (f ∷ fs) ≡ togo k most (before ++ (x ∷ [])) fs
 togo-more k most x before f fs e = rw e (by-rest (elements k fs))
   where
     by-rest : (o : Option (List ℕ)) → bind (bind o (λ xs. some (x ∷ xs))) (λ xs. only (leb (length (before ++ xs)) most) (before ++ xs))

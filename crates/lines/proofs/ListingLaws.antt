@@ -52,24 +52,28 @@ length-accesses (a ∷ log) i (suc zero) e h = absurd (omega arith)
 length-accesses (a ∷ []) i (suc (suc n)) e h = absurd (omega arith)
 length-accesses (a ∷ v ∷ l) zero (suc (suc n)) e h = absurd (omega arith)
 length-accesses (a ∷ v ∷ l) (suc i) (suc (suc n)) e h =
-    length-append (accessLine a v) (accessLines (take n l)) ∙ omega (arith, length-access a v, length-accesses l i n (omega arith) (omega arith))
+    length-append (accessLine a v) (accessLines (take n l))
+    ∙ omega (arith, length-access a v, length-accesses l i n (omega arith) (omega arith))
 
 -- ELEMENTS
 
 pub length-element : (k x : ℕ) → length (elementLine k x) ≡ k / 4 + 1
 length-element k x = length-append (digits 16 (k / 4) x) (newline ∷ []) ∙ ap (λ (m : ℕ). m + 1) (length-digits 16 (k / 4) x)
 
-pub elements-more : (k : ℕ) (xs : List ℕ) (i : ℕ) → i < length xs → elementLines k (take (i + 1) xs) ≡ elementLines k (take i xs) ++ elementLine k (getD xs i 0)
+pub elements-more : (k : ℕ) (xs : List ℕ) (i : ℕ) → i < length xs
+    → elementLines k (take (i + 1) xs) ≡ elementLines k (take i xs) ++ elementLine k (getD xs i 0)
 elements-more k [] i h = absurd (omega arith)
 elements-more k (x ∷ xs) zero h = append-nil (elementLine k x)
 elements-more k (x ∷ xs) (suc i) h =
     let e : suc i + 1 ≡ suc (i + 1) = omega arith in
     rw e
-    (ap (λ (t : List ℕ). elementLine k x ++ t) (elements-more k xs i (omega arith)) ∙ sym (append-assoc (elementLine k x) (elementLines k (take i xs)) (elementLine k (getD xs i 0))))
+    (ap (λ (t : List ℕ). elementLine k x ++ t) (elements-more k xs i (omega arith))
+    ∙ sym (append-assoc (elementLine k x) (elementLines k (take i xs)) (elementLine k (getD xs i 0))))
 
 pub length-elements : (k : ℕ) (xs : List ℕ) (i : ℕ) → i ≤ length xs → length (elementLines k (take i xs)) ≡ (k / 4 + 1) * i
 length-elements k xs zero h = sym (mul-zero (k / 4 + 1))
 length-elements k [] (suc i) h = absurd (omega arith)
 length-elements k (x ∷ xs) (suc i) h =
     let m = mul-suc (k / 4 + 1) i in
-    length-append (elementLine k x) (elementLines k (take i xs)) ∙ omega (arith, m, length-element k x, length-elements k xs i (omega arith))
+    length-append (elementLine k x) (elementLines k (take i xs))
+    ∙ omega (arith, m, length-element k x, length-elements k xs i (omega arith))

@@ -28,8 +28,11 @@ split-last s [] h = refl
 split-last s (b ∷ bs) h = by-test (eqb b s) refl (λ l. split-last s bs l)
   where
     by-test : (t : Bool) → eqb b s ≡ t → (length bs ≤ upTo s bs → split s bs ≡ bs ∷ []) → split s (b ∷ bs) ≡ (b ∷ bs) ∷ []
-    by-test true e f = let l : suc (length bs) ≤ 0 = subst (λ (t : Bool). suc (length bs) ≤ cond t 0 (suc (upTo s bs))) e h in absurd (omega arith)
-    by-test false e f = let l : suc (length bs) ≤ suc (upTo s bs) = subst (λ (t : Bool). suc (length bs) ≤ cond t 0 (suc (upTo s bs))) e h in rw e (ap (onFirst b) (f (omega arith)))
+    by-test true e f =
+        let l : suc (length bs) ≤ 0 = subst (λ (t : Bool). suc (length bs) ≤ cond t 0 (suc (upTo s bs))) e h in absurd (omega arith)
+    by-test false e f =
+        let l : suc (length bs) ≤ suc (upTo s bs) = subst (λ (t : Bool). suc (length bs) ≤ cond t 0 (suc (upTo s bs))) e h in
+        rw e (ap (onFirst b) (f (omega arith)))
 
 -- by places in the line
 fields-more : (s : ℕ) (line : List ℕ) (from end : ℕ) → from ≤ length line → end ≡ from + upTo s (drop from line) → end < length line
@@ -55,13 +58,16 @@ pub fields : (s : ℕ) (line : List ℕ) (from end : ℕ) → from ≤ length li
     → split s (drop from line) ≡ take (end - from) (drop from line) ∷ later s line end
 fields s line from end l e h = by-test (ltb end (length line)) refl
   where
-    by-test : (t : Bool) → ltb end (length line) ≡ t → split s (drop from line) ≡ take (end - from) (drop from line) ∷ cond t (split s (drop (end + 1) line)) []
+    by-test : (t : Bool) → ltb end (length line) ≡ t
+        → split s (drop from line) ≡ take (end - from) (drop from line) ∷ cond t (split s (drop (end + 1) line)) []
     by-test true t = fields-more s line from end l e (ltb-true end (length line) t)
     by-test false t = let m = ltb-false end (length line) t in fields-last s line from end l e (omega arith)
 
 -- part after part
-pub first-part : (s : ℕ) (line : List ℕ) (a : ℕ) → a ≡ 0 + upTo s (drop 0 line) → a ≤ length line → split s line ≡ take a line ∷ later s line a
-first-part s line a e h = fields s line 0 a (omega arith) e h ∙ ap (λ (n : ℕ). take n line ∷ later s line a) (let z : a - 0 ≡ a = omega arith in z)
+pub first-part : (s : ℕ) (line : List ℕ) (a : ℕ) → a ≡ 0 + upTo s (drop 0 line) → a ≤ length line
+    → split s line ≡ take a line ∷ later s line a
+first-part s line a e h =
+    fields s line 0 a (omega arith) e h ∙ ap (λ (n : ℕ). take n line ∷ later s line a) (let z : a - 0 ≡ a = omega arith in z)
 
 pub next-part : (s : ℕ) (line : List ℕ) (a b : ℕ) → a < length line → b ≡ (a + 1) + upTo s (drop (a + 1) line) → b ≤ length line
     → later s line a ≡ take (b - (a + 1)) (drop (a + 1) line) ∷ later s line b

@@ -27,7 +27,9 @@ module _ (k : ℕ) (d : Lpspi) (read write : List ℕ) (budget : ℕ) (script lo
     (left : transferLeft r log′ read′ ≡ exchangeSeparate k d read write budget script log) where
   -- the counts of the result
   pub exchange-counts : Counts log r
-  exchange-counts = subst (Counts log) (sym (ap (λ (t : TransferLeft). t .call .result) left)) (call-counts k d (separatePlan k d read write) budget script read log)
+  exchange-counts =
+      subst (Counts log) (sym (ap (λ (t : TransferLeft). t .call .result) left))
+      (call-counts k d (separatePlan k d read write) budget script read log)
 
   -- accesses, elements and the result line, each behind the one before
   pub listed : (out out₁ out₂ out₃ : List ℕ) (elements result n number : ℕ) → length log′ ≡ length log → number ≡ numberOf (r .ending)
@@ -60,7 +62,9 @@ module _ (k : ℕ) (d : Lpspi) (read write : List ℕ) (budget : ℕ) (script lo
       la = length-accesses log′ (r .accesses) (2 * r .accesses) (omega arith) (omega (arith, exchange-counts .pairs, el))
 
       lx : length x ≡ (k / 4 + 1) * length read′
-      lx = ap (λ (l : List ℕ). length (elementLines k l)) (sym (take-all (length read′) read′ (omega arith))) ∙ length-elements k read′ (length read′) (omega arith)
+      lx =
+          ap (λ (l : List ℕ). length (elementLines k l)) (sym (take-all (length read′) read′ (omega arith)))
+          ∙ length-elements k read′ (length read′) (omega arith)
 
 -- at the width and for the driver that were asked for
 pub as-asked : {k w : ℕ} {d d′ : Lpspi} (read write : List ℕ) (budget : ℕ) (script log out out′ : List ℕ) (n : ℕ) → w ≡ k → d ≡ d′

@@ -15,7 +15,8 @@ use lib.Pow.{pow-add, pow-pos, pow-mono}
 use Rattle.lines.specs.declared.parse.Parsed.{Parsed}
 use Rattle.lines.specs.declared.parse.Header.{Header}
 use Rattle.lines.specs.Text.{bytes, newline, space, same, split, onFirst, bind, only, numeral}
-use Rattle.lines.specs.Grammar.{Task, small, count, element, elements, lineElements, widthOf, orderOf, header, askedWith, asked, lines, task}
+use Rattle.lines.specs.Grammar.{Task, small, count, element, elements, lineElements, widthOf}
+use Rattle.lines.specs.Grammar.{orderOf, header, askedWith, asked, lines, task}
 use Rattle.lines.specs.Parse.{Answers, Sound}
 use Rattle.lines.proofs.PartLaws.{later}
 use Rattle.lines.proofs.TextLaws.{numeral-below}
@@ -37,8 +38,10 @@ four-fields w o n s line a h = rw (lt-ltb a (length line) h) (some-part (drop (a
     some-part (b ∷ bs) = by-test b bs (eqb b s)
 
 -- more than one newline at the end, or a fifth line
-pub fifth-line : (a b c d : List ℕ) (text : List ℕ) (end : ℕ) → end + 1 < length text → lines (a ∷ b ∷ c ∷ d ∷ later newline text end) ≡ none
-fifth-line a b c d text end h = rw (lt-ltb end (length text) (omega arith)) (by-rest (drop (end + 1) text) (omega (arith, length-drop (end + 1) text)))
+pub fifth-line : (a b c d : List ℕ) (text : List ℕ) (end : ℕ) → end + 1 < length text
+    → lines (a ∷ b ∷ c ∷ d ∷ later newline text end) ≡ none
+fifth-line a b c d text end h =
+    rw (lt-ltb end (length text) (omega arith)) (by-rest (drop (end + 1) text) (omega (arith, length-drop (end + 1) text)))
   where
     two-parts : (b′ : ℕ) (ps : List (List ℕ)) → lines (a ∷ b ∷ c ∷ d ∷ [] ∷ onFirst b′ ps) ≡ none
     two-parts b′ [] = refl
@@ -66,7 +69,8 @@ fifth-line a b c d text end h = rw (lt-ltb end (length text) (omega arith)) (by-
         by-test false = on-first x (split newline xs)
 
 -- the end of the text, or its newline
-pub four-lines : (a b c d : List ℕ) (text : List ℕ) (end : ℕ) → length text ≤ end + 1 → lines (a ∷ b ∷ c ∷ d ∷ later newline text end) ≡ asked a b c d
+pub four-lines : (a b c d : List ℕ) (text : List ℕ) (end : ℕ) → length text ≤ end + 1
+    → lines (a ∷ b ∷ c ∷ d ∷ later newline text end) ≡ asked a b c d
 four-lines a b c d text end h = by-test (ltb end (length text))
   where
     by-test : (t : Bool) → lines (a ∷ b ∷ c ∷ d ∷ cond t (split newline (drop (end + 1) text)) []) ≡ asked a b c d
@@ -138,7 +142,9 @@ elements-below k (f ∷ fs) xs e i =
     at x xs (suc i) h r = r i
 
 line-below : (k most : ℕ) (line xs : List ℕ) → lineElements k most line ≡ some xs → (length xs ≤ most) × ((i : ℕ) → getD xs i 0 < 2 ^ k)
-line-below k most [] xs e = subst (λ (l : List ℕ). (length l ≤ most) × ((i : ℕ) → getD l i 0 < 2 ^ k)) (Option·some-injective [] xs e) (omega arith, nothing-below k)
+line-below k most [] xs e =
+    subst (λ (l : List ℕ). (length l ≤ most) × ((i : ℕ) → getD l i 0 < 2 ^ k)) (Option·some-injective [] xs e)
+    (omega arith, nothing-below k)
 line-below k most (b ∷ bs) xs e =
     let m = bound (elements k (split space (b ∷ bs))) (λ xs. only (leb (length xs) most) xs) xs e in
     let p = passed (leb (length (m .value)) most) (m .value) xs (m .second) in
@@ -166,8 +172,13 @@ heads [] s e = absurd (Option·none-ne-some s e)
 heads (w ∷ []) s e = absurd (Option·none-ne-some s e)
 heads (w ∷ o ∷ []) s e = absurd (Option·none-ne-some s e)
 heads (w ∷ o ∷ n ∷ []) s e =
-    let k = bound (widthOf w) (λ k. bind (orderOf o) (λ order. bind (count n) (λ budget. some (record { width = k; order = order; budget = budget })))) s e in
-    let r = bound (orderOf o) (λ order. bind (count n) (λ budget. some (record { width = k .value; order = order; budget = budget }))) s (k .second) in
+    let k =
+    bound (widthOf w)
+    (λ k. bind (orderOf o) (λ order. bind (count n) (λ budget. some (record { width = k; order = order; budget = budget }))))
+    s e in
+    let r =
+    bound (orderOf o)
+    (λ order. bind (count n) (λ budget. some (record { width = k .value; order = order; budget = budget }))) s (k .second) in
     let b = bound (count n) (λ budget. some (record { width = k .value; order = r .value; budget = budget })) s (r .second) in
     subst Heads (Option·some-injective (record { width = k .value; order = r .value; budget = b .value }) s (b .second))
     (width-named w (k .value) (k .first), count-below n (b .value) (b .first))
@@ -186,10 +197,19 @@ header-small fs s e = named-small (s .width) (heads fs s e .0)
 with-sound : (s : Header) (write read script : List ℕ) (j : Task) → Heads s → askedWith s write read script ≡ some j → Sound j
 with-sound s write read script j h e =
     let few : Option ℕ = bind (count read) (λ n. only (leb n 512) n) in
-    let w = bound (lineElements (s .width) 512 write)
-    (λ ws. bind few (λ n. bind (lineElements 32 8000 script) (λ vs. some (record { header = s; write = ws; read = n; script = vs })))) j e in
-    let n = bound few (λ n. bind (lineElements 32 8000 script) (λ vs. some (record { header = s; write = w .value; read = n; script = vs }))) j (w .second) in
-    let v = bound (lineElements 32 8000 script) (λ vs. some (record { header = s; write = w .value; read = n .value; script = vs })) j (n .second) in
+    let w =
+    bound (lineElements (s .width) 512 write)
+    (λ ws.
+    bind few (λ n. bind (lineElements 32 8000 script) (λ vs. some (record { header = s; write = ws; read = n; script = vs }))))
+    j e in
+    let n =
+    bound few
+    (λ n. bind (lineElements 32 8000 script) (λ vs. some (record { header = s; write = w .value; read = n; script = vs })))
+    j (w .second) in
+    let v =
+    bound (lineElements 32 8000 script)
+    (λ vs. some (record { header = s; write = w .value; read = n .value; script = vs }))
+    j (n .second) in
     let l = line-below (s .width) 512 write (w .value) (w .first) in
     subst Sound (Option·some-injective (record { header = s; write = w .value; read = n .value; script = v .value }) j (v .second))
     (record { width = h .0; budget = h .1; write = l .0; read = at-most 512 (n .value) (count read) (n .first); elements = l .1 })

@@ -48,12 +48,15 @@ up-to-end s (x ∷ xs) (suc n) h = up-to-end s xs n (omega arith)
 
 -- NUMBERS, a digit at a time
 
-pub number-more : (base n : ℕ) (xs : List ℕ) (i d : ℕ) → i < length xs → digitIn base (getD xs i 0) ≡ some d → numeralFrom base n (drop i xs) ≡ numeralFrom base (n * base + d) (drop (i + 1) xs)
+pub number-more : (base n : ℕ) (xs : List ℕ) (i d : ℕ) → i < length xs → digitIn base (getD xs i 0) ≡ some d
+    → numeralFrom base n (drop i xs) ≡ numeralFrom base (n * base + d) (drop (i + 1) xs)
 number-more base n [] i d h e = absurd (omega arith)
 number-more base n (x ∷ xs) zero d h e = rw e
-number-more base n (x ∷ xs) (suc i) d h e = let m : suc i + 1 ≡ suc (i + 1) = omega arith in rw m (number-more base n xs i d (omega arith) e)
+number-more base n (x ∷ xs) (suc i) d h e =
+    let m : suc i + 1 ≡ suc (i + 1) = omega arith in rw m (number-more base n xs i d (omega arith) e)
 
-pub number-bad : (base n : ℕ) (xs : List ℕ) (i : ℕ) → i < length xs → digitIn base (getD xs i 0) ≡ none → numeralFrom base n (drop i xs) ≡ none
+pub number-bad : (base n : ℕ) (xs : List ℕ) (i : ℕ) → i < length xs → digitIn base (getD xs i 0) ≡ none
+    → numeralFrom base n (drop i xs) ≡ none
 number-bad base n [] i h e = absurd (omega arith)
 number-bad base n (x ∷ xs) zero h e = rw e
 number-bad base n (x ∷ xs) (suc i) h e = number-bad base n xs i (omega arith) e
@@ -67,9 +70,11 @@ number-end base n (x ∷ xs) (suc i) h = number-end base n xs i (omega arith)
 -- a number that is too large stays so
 pub number-large : (base n : ℕ) (xs : List ℕ) → 0 < base → 2 ^ 32 ≤ n → bind (numeralFrom base n xs) small ≡ none
 number-large base n [] h l = rw (le-ltb n (2 ^ 32) l)
-number-large base n (x ∷ xs) h l = by-digit (digitIn base x) (λ d. number-large base (n * base + d) xs h (omega (arith, mul-le-mul-left n h, mul-one n)))
+number-large base n (x ∷ xs) h l =
+    by-digit (digitIn base x) (λ d. number-large base (n * base + d) xs h (omega (arith, mul-le-mul-left n h, mul-one n)))
   where
-    by-digit : (o : Option ℕ) → ((d : ℕ) → bind (numeralFrom base (n * base + d) xs) small ≡ none) → bind (bind o (λ d. numeralFrom base (n * base + d) xs)) small ≡ none
+    by-digit : (o : Option ℕ) → ((d : ℕ) → bind (numeralFrom base (n * base + d) xs) small ≡ none)
+        → bind (bind o (λ d. numeralFrom base (n * base + d) xs)) small ≡ none
     by-digit none f = refl
     by-digit (some d) f = f d
 
@@ -85,7 +90,8 @@ number-below n j x (b ∷ bs) l e = by-digit (digit b) (λ d h q.
     by-digit none f q = absurd (Option·none-ne-some x q)
     by-digit (some d) f q = by-test (ltb d 16) refl q
       where
-        by-test : (t : Bool) → ltb d 16 ≡ t → bind (only t d) (λ d. numeralFrom 16 (n * 16 + d) bs) ≡ some x → x < 16 ^ (j + suc (length bs))
+        by-test : (t : Bool) → ltb d 16 ≡ t → bind (only t d) (λ d. numeralFrom 16 (n * 16 + d) bs) ≡ some x
+            → x < 16 ^ (j + suc (length bs))
         by-test true t q = f d (ltb-true d 16 t) q
         by-test false t q = absurd (Option·none-ne-some x q)
 
@@ -123,13 +129,16 @@ same-longer [] ys h = absurd (omega arith)
 same-longer (x ∷ xs) [] h = refl
 same-longer (x ∷ xs) (y ∷ ys) h = rw (same-longer xs ys (omega arith)) (and-false (eqb x y))
 
-pub same-more : (xs ys : List ℕ) (i : ℕ) → i < length xs → i < length ys → getD xs i 0 ≡ getD ys i 0 → same (drop i xs) (drop i ys) ≡ same (drop (i + 1) xs) (drop (i + 1) ys)
+pub same-more : (xs ys : List ℕ) (i : ℕ) → i < length xs → i < length ys → getD xs i 0 ≡ getD ys i 0
+    → same (drop i xs) (drop i ys) ≡ same (drop (i + 1) xs) (drop (i + 1) ys)
 same-more [] ys i h l e = absurd (omega arith)
 same-more (x ∷ xs) [] i h l e = absurd (omega arith)
 same-more (x ∷ xs) (y ∷ ys) zero h l e = rw (eq-eqb x y e)
-same-more (x ∷ xs) (y ∷ ys) (suc i) h l e = let m : suc i + 1 ≡ suc (i + 1) = omega arith in rw m (same-more xs ys i (omega arith) (omega arith) e)
+same-more (x ∷ xs) (y ∷ ys) (suc i) h l e =
+    let m : suc i + 1 ≡ suc (i + 1) = omega arith in rw m (same-more xs ys i (omega arith) (omega arith) e)
 
-pub same-differs : (xs ys : List ℕ) (i : ℕ) → i < length xs → i < length ys → (getD xs i 0 ≡ getD ys i 0 → ⊥) → same (drop i xs) (drop i ys) ≡ false
+pub same-differs : (xs ys : List ℕ) (i : ℕ) → i < length xs → i < length ys → (getD xs i 0 ≡ getD ys i 0 → ⊥)
+    → same (drop i xs) (drop i ys) ≡ false
 same-differs [] ys i h l e = absurd (omega arith)
 same-differs (x ∷ xs) [] i h l e = absurd (omega arith)
 same-differs (x ∷ xs) (y ∷ ys) zero h l e = rw (ne-eqb x y e)

@@ -11,7 +11,10 @@ use Rattle.lines.specs.Text.{glyph, digits, written}
 
 pub length-digits : (base k n : ℕ) → length (digits base k n) ≡ k
 length-digits base zero n = refl
-length-digits base (suc k) n = length-append (digits base k (n / base)) (glyph (n % base) ∷ []) ∙ ap (λ (m : ℕ). m + 1) (length-digits base k (n / base)) ∙ add-one k
+length-digits base (suc k) n =
+    length-append (digits base k (n / base)) (glyph (n % base) ∷ [])
+    ∙ ap (λ (m : ℕ). m + 1) (length-digits base k (n / base))
+    ∙ add-one k
 
 -- nothing is written
 pub written-nothing : (out : List ℕ) (at : ℕ) → out ≡ written out at []
@@ -48,7 +51,8 @@ written-append [] (suc at) (suc n) s t e = refl
 written-append (x ∷ xs) (suc at) (suc n) s t e = ap (λ (l : List ℕ). x ∷ l) (written-append xs at n s t (omega arith))
 
 -- the same, of a buffer that was written in two steps
-pub written-then : (out mid end : List ℕ) (at n : ℕ) (s t : List ℕ) → n ≡ at + length s → mid ≡ written out at s → end ≡ written mid n t → end ≡ written out at (s ++ t)
+pub written-then : (out mid end : List ℕ) (at n : ℕ) (s t : List ℕ) → n ≡ at + length s → mid ≡ written out at s
+    → end ≡ written mid n t → end ≡ written out at (s ++ t)
 written-then out mid end at n s t e em ee = ee ∙ ap (λ (l : List ℕ). written l n t) em ∙ written-append out at n s t e
 
 -- DIGITS: the last one is stored, and the others are left
@@ -69,4 +73,7 @@ digits-stored out at base l n g h r e =
 pub copied-more : (from to : List ℕ) (i : ℕ) → i < length from → length from ≡ length to → take i to ≡ take i from
     → take (i + 1) (set to i (getD from i 0)) ≡ take (i + 1) from
 copied-more from to i h l e =
-    rw (add-one i) (take-suc-set to i (getD from i 0) (omega arith) ∙ ap (λ (xs : List ℕ). xs ++ (getD from i 0 ∷ [])) e ∙ sym (take-suc from i 0 h))
+    rw (add-one i)
+    (take-suc-set to i (getD from i 0) (omega arith)
+    ∙ ap (λ (xs : List ℕ). xs ++ (getD from i 0 ∷ [])) e
+    ∙ sym (take-suc from i 0 h))

@@ -21,13 +21,15 @@ zeros n = replicate n 0
 abbrev pub exchanged : Task → TransferLeft
 exchanged j =
     let s = j .header in
-    exchangeSeparate (s .width) (withOrder (s .order) startDriver) (zeros (j .read)) (j .write) (s .budget) (j .script) (zeros (2 * min (s .budget) 8000))
+    exchangeSeparate (s .width) (withOrder (s .order) startDriver) (zeros (j .read)) (j .write)
+    (s .budget) (j .script) (zeros (2 * min (s .budget) 8000))
 
 -- accesses, read elements, then the result
 abbrev pub listing : ℕ → TransferLeft → List ℕ
 listing k t =
     let r = t .call .result in
-    accessLines (take (2 * r .accesses) (t .call .log)) ++ (elementLines k (t .buffer) ++ resultLine (t .call .number) (r .accesses) (r .answers))
+    accessLines (take (2 * r .accesses) (t .call .log))
+    ++ (elementLines k (t .buffer) ++ resultLine (t .call .number) (r .accesses) (r .answers))
 
 -- anything else prints `bad`
 abbrev pub answer : Option Task → List ℕ

@@ -40,7 +40,10 @@ lineElements k most (b ∷ bs) = bind (elements k (split space (b ∷ bs))) (λ 
 
 -- the width is exactly 8, 16 or 32
 abbrev pub widthOf : List ℕ → Option ℕ
-widthOf field = cond (same field (bytes "8")) (some 8) (cond (same field (bytes "16")) (some 16) (cond (same field (bytes "32")) (some 32) none))
+widthOf field =
+    cond (same field (bytes "8")) (some 8)
+    (cond (same field (bytes "16")) (some 16)
+    (cond (same field (bytes "32")) (some 32) none))
 
 -- order (M or L)
 abbrev pub orderOf : List ℕ → Option BitOrder
@@ -51,7 +54,11 @@ abbrev pub header : List (List ℕ) → Option Header
 header [] = none
 header (w ∷ []) = none
 header (w ∷ o ∷ []) = none
-header (w ∷ o ∷ n ∷ []) = bind (widthOf w) (λ k. bind (orderOf o) (λ order. bind (count n) (λ budget. some (record { width = k; order = order; budget = budget }))))
+header (w ∷ o ∷ n ∷ []) =
+    bind (widthOf w) (λ k.
+    bind (orderOf o) (λ order.
+    bind (count n) (λ budget.
+    some (record { width = k; order = order; budget = budget }))))
 header (w ∷ o ∷ n ∷ x ∷ xs) = none
 
 -- at most 512 elements written, 512 read, 8,000 answers

@@ -4,6 +4,7 @@ ghost use mathlib.Core.Path.{_≡_};
 ghost use lib.ListN.{length, getD};
 ghost use Rattle.transfers.specs.Transfers.{exchangeSeparate};
 ghost use Rattle.lines.specs.Buslog.{zeros, listing, Printed};
+ghost use Rattle.lines.specs.Parse.{Listable};
 use crate::print::access_lines;
 use crate::print::bytes;
 use crate::print::halves;
@@ -35,8 +36,12 @@ fn list_u8(
     read: &mut [u8],
     out: &mut [u8],
 ) -> usize
-    requires { ⌜ (116626 ≤ length (now out)) × (length (now read) ≤ 512) × (length (now write) ≡ length (now sent)) × ((i : ℕ) → getD (now write) i 0 < 2 ^ 8) ⌝ }
-    ensures { λ r. ⌜ Printed (listing 8 (exchangeSeparate 8 driver (now (read .entry)) (now (write .entry)) budget (now (script .entry)) (now (log .entry)))) (now (out .entry)) (now (out .exit)) r ⌝ }
+    requires { ⌜ Listable 8 (length (now read)) (now write) (now out) × (length (now write) ≡ length (now sent)) ⌝ }
+    ensures { λ r. ⌜ Printed
+        (listing 8
+        (exchangeSeparate 8 driver (now (read .entry)) (now (write .entry))
+        budget (now (script .entry)) (now (log .entry))))
+        (now (out .entry)) (now (out .exit)) r ⌝ }
 {
     narrow_u8(write, sent);
     let r = exchange_separate_u8(driver, read, &sent[..], budget, script, log);
@@ -58,8 +63,12 @@ pub(crate) fn run_u8(
     log: &mut [u32],
     out: &mut [u8],
 ) -> usize
-    requires { ⌜ (116626 ≤ length (now out)) × (reads ≤ 512) × (length (now write) ≤ 512) × ((i : ℕ) → getD (now write) i 0 < 2 ^ 8) ⌝ }
-    ensures { λ r. ⌜ Printed (listing 8 (exchangeSeparate 8 driver (zeros reads) (now (write .entry)) budget (now (script .entry)) (now (log .entry)))) (now (out .entry)) (now (out .exit)) r ⌝ }
+    requires { ⌜ Listable 8 reads (now write) (now out) ⌝ }
+    ensures { λ r. ⌜ Printed
+        (listing 8
+        (exchangeSeparate 8 driver (zeros reads) (now (write .entry))
+        budget (now (script .entry)) (now (log .entry))))
+        (now (out .entry)) (now (out .exit)) r ⌝ }
 {
     let mut sent = [0u8; 512];
     let n = write.len();
@@ -97,8 +106,12 @@ fn list_u16(
     read: &mut [u16],
     out: &mut [u8],
 ) -> usize
-    requires { ⌜ (116626 ≤ length (now out)) × (length (now read) ≤ 512) × (length (now write) ≡ length (now sent)) × ((i : ℕ) → getD (now write) i 0 < 2 ^ 16) ⌝ }
-    ensures { λ r. ⌜ Printed (listing 16 (exchangeSeparate 16 driver (now (read .entry)) (now (write .entry)) budget (now (script .entry)) (now (log .entry)))) (now (out .entry)) (now (out .exit)) r ⌝ }
+    requires { ⌜ Listable 16 (length (now read)) (now write) (now out) × (length (now write) ≡ length (now sent)) ⌝ }
+    ensures { λ r. ⌜ Printed
+        (listing 16
+        (exchangeSeparate 16 driver (now (read .entry)) (now (write .entry))
+        budget (now (script .entry)) (now (log .entry))))
+        (now (out .entry)) (now (out .exit)) r ⌝ }
 {
     narrow_u16(write, sent);
     let r = exchange_separate_u16(driver, read, &sent[..], budget, script, log);
@@ -120,8 +133,12 @@ pub(crate) fn run_u16(
     log: &mut [u32],
     out: &mut [u8],
 ) -> usize
-    requires { ⌜ (116626 ≤ length (now out)) × (reads ≤ 512) × (length (now write) ≤ 512) × ((i : ℕ) → getD (now write) i 0 < 2 ^ 16) ⌝ }
-    ensures { λ r. ⌜ Printed (listing 16 (exchangeSeparate 16 driver (zeros reads) (now (write .entry)) budget (now (script .entry)) (now (log .entry)))) (now (out .entry)) (now (out .exit)) r ⌝ }
+    requires { ⌜ Listable 16 reads (now write) (now out) ⌝ }
+    ensures { λ r. ⌜ Printed
+        (listing 16
+        (exchangeSeparate 16 driver (zeros reads) (now (write .entry))
+        budget (now (script .entry)) (now (log .entry))))
+        (now (out .entry)) (now (out .exit)) r ⌝ }
 {
     let mut sent = [0u16; 512];
     let n = write.len();
@@ -149,7 +166,11 @@ fn list_u32(
     out: &mut [u8],
 ) -> usize
     requires { ⌜ (116626 ≤ length (now out)) × (length (now read) ≤ 512) ⌝ }
-    ensures { λ r. ⌜ Printed (listing 32 (exchangeSeparate 32 driver (now (read .entry)) (now (write .entry)) budget (now (script .entry)) (now (log .entry)))) (now (out .entry)) (now (out .exit)) r ⌝ }
+    ensures { λ r. ⌜ Printed
+        (listing 32
+        (exchangeSeparate 32 driver (now (read .entry)) (now (write .entry))
+        budget (now (script .entry)) (now (log .entry))))
+        (now (out .entry)) (now (out .exit)) r ⌝ }
 {
     let r = exchange_separate_u32(driver, read, write, budget, script, log);
     let made = r.accesses;
@@ -171,7 +192,11 @@ pub(crate) fn run_u32(
     out: &mut [u8],
 ) -> usize
     requires { ⌜ (116626 ≤ length (now out)) × (reads ≤ 512) ⌝ }
-    ensures { λ r. ⌜ Printed (listing 32 (exchangeSeparate 32 driver (zeros reads) (now (write .entry)) budget (now (script .entry)) (now (log .entry)))) (now (out .entry)) (now (out .exit)) r ⌝ }
+    ensures { λ r. ⌜ Printed
+        (listing 32
+        (exchangeSeparate 32 driver (zeros reads) (now (write .entry))
+        budget (now (script .entry)) (now (log .entry))))
+        (now (out .entry)) (now (out .exit)) r ⌝ }
 {
     let mut read = [0u32; 512];
     list_u32(driver, budget, write, script, log, &mut read[..reads], out)

@@ -5,7 +5,8 @@ ghost use mathlib.Core.Path.{_≡_};
 ghost use lib.Dec.{leb};
 ghost use lib.ListN.{length, drop};
 ghost use Rattle.lines.specs.Text.{space, split, bind, only, same as sameOf, digit as digitOf, digitIn, upTo, numeral};
-ghost use Rattle.lines.specs.Grammar.{small, count as countOf, element, widthOf, orderOf, header as headerOf, askedWith, asked as askedOf, task};
+ghost use Rattle.lines.specs.Grammar.{small, count as countOf, element, widthOf, orderOf, header as headerOf};
+ghost use Rattle.lines.specs.Grammar.{askedWith, asked as askedOf, task};
 ghost use Rattle.lines.specs.Parse.{numberAnswer, orderAnswer, headerAnswer, LineRead, Answers};
 use words::order::BitOrder;
 
@@ -276,7 +277,8 @@ fn read_rest(
     answers: &mut [u32],
 ) -> Parsed
     requires { ⌜ (header .width ≤ 32) × (512 ≤ length (now written)) × (8000 ≤ length (now answers)) ⌝ }
-    ensures { λ r. ⌜ Answers (askedWith header (now (write .entry)) (now (read .entry)) (now (script .entry))) (now (written .exit)) (now (answers .exit)) r ⌝ }
+    ensures { λ r. ⌜ Answers (askedWith header (now (write .entry)) (now (read .entry)) (now (script .entry)))
+        (now (written .exit)) (now (answers .exit)) r ⌝ }
 {
     match read_elements(header.width, 512, write, written) {
         Number::Bad => Parsed::Malformed,
@@ -305,7 +307,8 @@ fn read_lines(
     answers: &mut [u32],
 ) -> Parsed
     requires { ⌜ (512 ≤ length (now written)) × (8000 ≤ length (now answers)) ⌝ }
-    ensures { λ r. ⌜ Answers (askedOf (now (first .entry)) (now (write .entry)) (now (read .entry)) (now (script .entry))) (now (written .exit)) (now (answers .exit)) r ⌝ }
+    ensures { λ r. ⌜ Answers (askedOf (now (first .entry)) (now (write .entry)) (now (read .entry)) (now (script .entry)))
+        (now (written .exit)) (now (answers .exit)) r ⌝ }
 {
     match read_first(first) {
         First::Refused => Parsed::Malformed,

@@ -60,7 +60,9 @@ fn places(n: u32) -> usize
 
 fn decimal(out: &mut [u8], at: usize, n: u32) -> usize
     requires { ⌜ at + 5 ≤ length (now out) ⌝ }
-    ensures { λ r. ⌜ (r ≤ at + 5) × (r ≡ at + length (decimalOf n)) × (now (out .exit) ≡ written (now (out .entry)) at (decimalOf n)) ⌝ }
+    ensures { λ r. ⌜ (r ≤ at + 5)
+        × (r ≡ at + length (decimalOf n))
+        × (now (out .exit) ≡ written (now (out .entry)) at (decimalOf n)) ⌝ }
 {
     digits(out, at, 10, places(n), n)
 }
@@ -91,7 +93,8 @@ pub(crate) fn access_line(out: &mut [u8], at: usize, register: u32, value: u32) 
 // So many accesses of a log.
 pub(crate) fn access_lines(out: &mut [u8], at: usize, log: &[u32], made: usize) -> usize
     requires { ⌜ (2 * made ≤ length (now log)) × (at + 14 * made ≤ length (now out)) ⌝ }
-    ensures { λ r. ⌜ (r ≡ at + 14 * made) × (now (out .exit) ≡ written (now (out .entry)) at (accessLines (take (2 * made) (now (log .entry))))) ⌝ }
+    ensures { λ r. ⌜ (r ≡ at + 14 * made)
+        × (now (out .exit) ≡ written (now (out .entry)) at (accessLines (take (2 * made) (now (log .entry))))) ⌝ }
 {
     let mut next = at;
     for i in 0..made {
@@ -111,7 +114,8 @@ fn byte_line(out: &mut [u8], at: usize, x: u8) -> usize
 
 pub(crate) fn bytes(out: &mut [u8], at: usize, read: &[u8]) -> usize
     requires { ⌜ at + 3 * length (now read) ≤ length (now out) ⌝ }
-    ensures { λ r. ⌜ (r ≡ at + 3 * length (now (read .entry))) × (now (out .exit) ≡ written (now (out .entry)) at (elementLines 8 (now (read .entry)))) ⌝ }
+    ensures { λ r. ⌜ (r ≡ at + 3 * length (now (read .entry)))
+        × (now (out .exit) ≡ written (now (out .entry)) at (elementLines 8 (now (read .entry)))) ⌝ }
 {
     let mut next = at;
     for i in 0..read.len() {
@@ -130,7 +134,8 @@ fn half_line(out: &mut [u8], at: usize, x: u16) -> usize
 
 pub(crate) fn halves(out: &mut [u8], at: usize, read: &[u16]) -> usize
     requires { ⌜ at + 5 * length (now read) ≤ length (now out) ⌝ }
-    ensures { λ r. ⌜ (r ≡ at + 5 * length (now (read .entry))) × (now (out .exit) ≡ written (now (out .entry)) at (elementLines 16 (now (read .entry)))) ⌝ }
+    ensures { λ r. ⌜ (r ≡ at + 5 * length (now (read .entry)))
+        × (now (out .exit) ≡ written (now (out .entry)) at (elementLines 16 (now (read .entry)))) ⌝ }
 {
     let mut next = at;
     for i in 0..read.len() {
@@ -149,7 +154,8 @@ fn word_line(out: &mut [u8], at: usize, x: u32) -> usize
 
 pub(crate) fn words(out: &mut [u8], at: usize, read: &[u32]) -> usize
     requires { ⌜ at + 9 * length (now read) ≤ length (now out) ⌝ }
-    ensures { λ r. ⌜ (r ≡ at + 9 * length (now (read .entry))) × (now (out .exit) ≡ written (now (out .entry)) at (elementLines 32 (now (read .entry)))) ⌝ }
+    ensures { λ r. ⌜ (r ≡ at + 9 * length (now (read .entry)))
+        × (now (out .exit) ≡ written (now (out .entry)) at (elementLines 32 (now (read .entry)))) ⌝ }
 {
     let mut next = at;
     for i in 0..read.len() {
@@ -167,7 +173,9 @@ pub(crate) fn result_line(
     answers: u32,
 ) -> usize
     requires { ⌜ at + 18 ≤ length (now out) ⌝ }
-    ensures { λ r. ⌜ (r ≤ at + 18) × (r ≡ at + length (resultLine number accesses answers)) × (now (out .exit) ≡ written (now (out .entry)) at (resultLine number accesses answers)) ⌝ }
+    ensures { λ r. ⌜ (r ≤ at + 18)
+        × (r ≡ at + length (resultLine number accesses answers))
+        × (now (out .exit) ≡ written (now (out .entry)) at (resultLine number accesses answers)) ⌝ }
 {
     let first = decimal(out, at, number);
     let gap = put(out, first, 32);

@@ -26,7 +26,8 @@ use Rattle.machine.specs.declared.transfer.Stage.the-variants.{Space, Co
 use Rattle.machine.specs.declared.transfer.Transfer.{Transfer}
 use Rattle.machine.specs.declared.transfer.Work.{Work}
 use Rattle.machine.specs.Poll.{polled}
-use Rattle.machine.specs.Transfer.{at, startTransfer, sendTurn, receiveTurn, counted, oneSent, oneReceived, spaceBy, sendingBy, receivingBy, afterRecovery, resumed}
+use Rattle.machine.specs.Transfer.{at, startTransfer, sendTurn, receiveTurn, counted, oneSent, oneReceived}
+use Rattle.machine.specs.Transfer.{spaceBy, sendingBy, receivingBy, afterRecovery, resumed}
 
 -- what holds in each stage
 abbrev Within : Stage → Work → Sequence → Type 0
@@ -83,7 +84,8 @@ after-recovery d w r = by-test (leb 27 (r .place)) refl
     by-test false e = leb-false 27 (r .place) e
 
 -- one access keeps it
-resumed-within : (p : Stage) (w : Work) (r : Sequence) (v : ℕ) → Within p w r → let t = resumed (at p w r) v in Within (t .phase) (t .work) (t .reset)
+resumed-within : (p : Stage) (w : Work) (r : Sequence) (v : ℕ) → Within p w r → let t = resumed (at p w r) v in
+    Within (t .phase) (t .work) (t .reset)
 unfolding resumed
 resumed-within (Space p) w r v h = space-by (polled Tx p v) w r h
 resumed-within Command w r v h = send-turn w r h

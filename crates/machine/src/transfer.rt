@@ -1,6 +1,8 @@
 // The machine of a transfer.
 ghost use mathlib.Core.Path.{_≡_};
-ghost use Rattle.machine.specs.Transfer.{startTransfer, endedTransfer, sendTurn, receiveTurn, turnOf, counted, oneSent, oneReceived, afterSpace, afterSending, afterReceiving, afterRecovery, at, turnAt, startsIn, isAtStart, dueAccess, resumed};
+ghost use Rattle.machine.specs.Transfer.{startTransfer, endedTransfer, sendTurn, receiveTurn, turnOf, counted, oneSent, oneReceived};
+ghost use Rattle.machine.specs.Transfer.{afterSpace, afterSending, afterReceiving, afterRecovery, at, turnAt, dueAccess, resumed};
+ghost use Rattle.machine.specs.Transfer.{startsIn, isAtStart};
 use crate::poll::Poll;
 use crate::poll::Polled;
 use crate::poll::poll_access;

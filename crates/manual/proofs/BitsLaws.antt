@@ -22,7 +22,8 @@ get-set p n v w = rw set-from (low (w / 2 ^ p / 2 ^ n) n (mod-lt v (pow-pos n)))
 get-low : (p w q m : ℕ) → q + m ≤ p → getBits q m w ≡ getBits q m (w % 2 ^ p)
 get-low p w q m h =
     let e : p ≡ p - (m + q) + (m + q) = omega arith in
-    let same : w % 2 ^ p % 2 ^ (m + q) ≡ w % 2 ^ (m + q) = subst (λ (k : ℕ). w % 2 ^ k % 2 ^ (m + q) ≡ w % 2 ^ (m + q)) (sym e) (mod-mod-pow w (p - (m + q)) (m + q)) in
+    let same : w % 2 ^ p % 2 ^ (m + q) ≡ w % 2 ^ (m + q) =
+    subst (λ (k : ℕ). w % 2 ^ k % 2 ^ (m + q) ≡ w % 2 ^ (m + q)) (sym e) (mod-mod-pow w (p - (m + q)) (m + q)) in
     sym (field w m q) ∙ ap (λ (x : ℕ). x / 2 ^ q) (sym same) ∙ field (w % 2 ^ p) m q
 
 get-high : (p n w q m : ℕ) → p + n ≤ q → getBits q m w ≡ w / 2 ^ p / 2 ^ n / 2 ^ (q - (p + n)) % 2 ^ m
@@ -38,5 +39,6 @@ get-set-below p n v w q m h =
 pub get-set-above : (p n v w q m : ℕ) → p + n ≤ q → getBits q m (setBits p n v w) ≡ getBits q m w
 get-set-above p n v w q m h =
     get-high p n (setBits p n v w) q m h
-    ∙ ap (λ (x : ℕ). x / 2 ^ (q - (p + n)) % 2 ^ m) (ap (λ (x : ℕ). x / 2 ^ n) (set-from p n v w) ∙ high (w / 2 ^ p / 2 ^ n) n (mod-lt v (pow-pos n)))
+    ∙ ap (λ (x : ℕ). x / 2 ^ (q - (p + n)) % 2 ^ m)
+    (ap (λ (x : ℕ). x / 2 ^ n) (set-from p n v w) ∙ high (w / 2 ^ p / 2 ^ n) n (mod-lt v (pow-pos n)))
     ∙ sym (get-high p n w q m h)

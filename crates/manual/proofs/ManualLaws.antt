@@ -20,7 +20,8 @@ use Rattle.manual.specs.declared.Fsr.the-variants.{TXCOUNT, RXCOUNT}
 use Rattle.manual.specs.declared.Tcr.the-variants.{FRAMESZ, TXMSK, RXMSK, CONTC, CONT, BYSW, LSBF, PCS, CPHA, CPOL}
 use Rattle.manual.specs.declared.Rsr.the-variants.{SOF, RXEMPTY}
 use Rattle.manual.specs.declared.Register.{Register}
-use Rattle.manual.specs.declared.Register.the-variants.{PARAM, CR, SR, IER, DER, CFGR0, CFGR1, DMR0, DMR1, CCR, FCR, FSR, TCR, TDR, RSR, RDR}
+use Rattle.manual.specs.declared.Register.the-variants.{PARAM, CR, SR, IER, DER, CFGR0, CFGR1, DMR0}
+use Rattle.manual.specs.declared.Register.the-variants.{DMR1, CCR, FCR, FSR, TCR, TDR, RSR, RDR}
 use Rattle.manual.specs.declared.Field.{Field}
 use Rattle.manual.specs.declared.Field.the-variants.{Param, Cr, Sr, Cfgr1, Ccr, Fcr, Fsr, Tcr, Rsr}
 use Rattle.manual.specs.Bits.{getBits}
@@ -33,7 +34,9 @@ either false true h p q = q tt
 
 -- one of two fields ends where the other begins, or before
 abbrev pub apart : Field → Field → Bool
-apart f g = leb (bitsOf g .position + bitsOf g .width) (bitsOf f .position) || leb (bitsOf f .position + bitsOf f .width) (bitsOf g .position)
+apart f g =
+    leb (bitsOf g .position + bitsOf g .width) (bitsOf f .position) || leb
+    (bitsOf f .position + bitsOf f .width) (bitsOf g .position)
 
 abbrev pub sameBits : Field → Field → Bool
 sameBits f g = eqb (bitsOf f .position) (bitsOf g .position) && eqb (bitsOf f .width) (bitsOf g .width)
@@ -146,7 +149,9 @@ pairs-apart RDR = tt
 -- INSIDE ITS REGISTER
 pub fits : (f : Field) → (0 < bitsOf f .width) × (bitsOf f .width < 32) × (bitsOf f .position + bitsOf f .width ≤ 32)
 fits f =
-    let w = and-yes (ltb 0 (bitsOf f .width)) (ltb (bitsOf f .width) 32 && leb (bitsOf f .position + bitsOf f .width) 32) (table-sound f .inside) in
+    let w =
+    and-yes (ltb 0 (bitsOf f .width)) (ltb (bitsOf f .width) 32 && leb (bitsOf f .position + bitsOf f .width) 32)
+    (table-sound f .inside) in
     let l = and-yes (ltb (bitsOf f .width) 32) (leb (bitsOf f .position + bitsOf f .width) 32) (w .1) in
     (ltb→lt 0 (bitsOf f .width) (w .0), ltb→lt (bitsOf f .width) 32 (l .0), leb→le (bitsOf f .position + bitsOf f .width) 32 (l .1))
 
@@ -164,7 +169,8 @@ nth-apart (f ∷ fs) (suc m) (suc n) h l k = nth-apart fs m n (and-yes (every (a
 
 apart-swapped : (f g : Field) → T (apart f g) → T (apart g f)
 apart-swapped f g =
-    swapped (leb (bitsOf g .position + bitsOf g .width) (bitsOf f .position)) (leb (bitsOf f .position + bitsOf f .width) (bitsOf g .position))
+    swapped (leb (bitsOf g .position + bitsOf g .width) (bitsOf f .position))
+    (leb (bitsOf f .position + bitsOf f .width) (bitsOf g .position))
   where
     swapped : (a b : Bool) → T (a || b) → T (b || a)
     swapped true true h = tt
@@ -195,7 +201,10 @@ module _ (f g : Field) (e : registerOf f ≡ registerOf g) where
     where
       by-place : (b c : Bool) → ltb m n ≡ b → ltb n m ≡ c → P
       by-place true c h k =
-          other (below m n f g (table-sound f .stands) at-g h (subst (λ (r : Register). n < length (fieldsOf r)) (sym e) (ltb→lt n (length (fieldsOf (registerOf g))) (table-sound g .counted))))
+          other
+          (below m n f g (table-sound f .stands) at-g h
+          (subst (λ (r : Register). n < length (fieldsOf r)) (sym e)
+          (ltb→lt n (length (fieldsOf (registerOf g))) (table-sound g .counted))))
       by-place false true h k =
           other (apart-swapped g f (below n m g f at-g (table-sound f .stands) k (ltb→lt m (length fs) (table-sound f .counted))))
       by-place false false h k =
@@ -209,7 +218,9 @@ pub different-apart : (f g : Field) → registerOf f ≡ registerOf g → (f ≡
 different-apart f g e n = same-or-apart f g e (λ q. absurd (n q)) (λ t. t)
 
 apart-or-same : (f g : Field) → registerOf f ≡ registerOf g → T (apart f g || sameBits f g)
-apart-or-same f g e = same-or-apart f g e (λ q. right (apart f g) (sameBits f g) (subst (λ (x : Field). T (sameBits f x)) q (itself f))) (λ t. left (apart f g) (sameBits f g) t)
+apart-or-same f g e =
+    same-or-apart f g e (λ q. right (apart f g) (sameBits f g) (subst (λ (x : Field). T (sameBits f x)) q (itself f)))
+    (λ t. left (apart f g) (sameBits f g) t)
   where
     left : (a b : Bool) → T a → T (a || b)
     left true b h = tt
@@ -222,7 +233,9 @@ apart-or-same f g e = same-or-apart f g e (λ q. right (apart f g) (sameBits f g
     both true true h k = tt
 
     itself : (f : Field) → T (sameBits f f)
-    itself f = both (eqb (bitsOf f .position) (bitsOf f .position)) (eqb (bitsOf f .width) (bitsOf f .width)) (eqb-refl (bitsOf f .position)) (eqb-refl (bitsOf f .width))
+    itself f =
+        both (eqb (bitsOf f .position) (bitsOf f .position)) (eqb (bitsOf f .width) (bitsOf f .width))
+        (eqb-refl (bitsOf f .position)) (eqb-refl (bitsOf f .width))
 
 -- READ BACK: the value, masked to the field
 pub read-set : (f : Field) (v w : ℕ) → readField f (setField f v w) ≡ v % 2 ^ (bitsOf f .width)
@@ -230,7 +243,8 @@ read-set f v w = get-set (bitsOf f .position) (bitsOf f .width) v w
 
 read-apart : (f g : Field) (v w : ℕ) → T (apart f g) → readField g (setField f v w) ≡ readField g w
 read-apart f g v w h =
-    either (leb (bitsOf g .position + bitsOf g .width) (bitsOf f .position)) (leb (bitsOf f .position + bitsOf f .width) (bitsOf g .position)) h
+    either (leb (bitsOf g .position + bitsOf g .width) (bitsOf f .position))
+    (leb (bitsOf f .position + bitsOf f .width) (bitsOf g .position)) h
     (λ l. get-set-below (bitsOf f .position) (bitsOf f .width) v w (bitsOf g .position) (bitsOf g .width) (leb→le _ _ l))
     (λ l. get-set-above (bitsOf f .position) (bitsOf f .width) v w (bitsOf g .position) (bitsOf g .width) (leb→le _ _ l))
 
@@ -256,7 +270,8 @@ read-all g [] w h = refl
 read-all g (s ∷ ss) w h =
     let b = and-yes (apart (s .0) g || sameBits (s .0) g) (clear g ss) h in
     let rest = read-all g ss w (b .1) in
-    choose (apart (s .0) g) (sameBits (s .0) g) (b .0) (λ t. read-apart (s .0) g (s .1) (setAll ss w) t ∙ rest) (λ t. read-same (s .0) g (s .1) (setAll ss w) t)
+    choose (apart (s .0) g) (sameBits (s .0) g) (b .0) (λ t. read-apart (s .0) g (s .1) (setAll ss w) t ∙ rest)
+    (λ t. read-same (s .0) g (s .1) (setAll ss w) t)
   where
     choose : (a e : Bool) → T (a || e) → {x y z : ℕ} → (T a → x ≡ y) → (T e → x ≡ z) → x ≡ cond a y z
     choose true e h p q = p tt
@@ -265,7 +280,8 @@ read-all g (s ∷ ss) w h =
     read-same : (f g : Field) (v w : ℕ) → T (sameBits f g) → readField g (setField f v w) ≡ v % 2 ^ (bitsOf g .width)
     read-same f g v w t =
         let b = and-yes (eqb (bitsOf f .position) (bitsOf g .position)) (eqb (bitsOf f .width) (bitsOf g .width)) t in
-        rw (eqb→eq (bitsOf f .position) (bitsOf g .position) (b .0), eqb→eq (bitsOf f .width) (bitsOf g .width) (b .1)) (get-set (bitsOf g .position) (bitsOf g .width) v w)
+        rw (eqb→eq (bitsOf f .position) (bitsOf g .position) (b .0), eqb→eq (bitsOf f .width) (bitsOf g .width) (b .1))
+        (get-set (bitsOf g .position) (bitsOf g .width) v w)
 
 -- settings of one register: any field of it reads back as the last of them gave it, or as before
 abbrev pub AllOf : Register → List Setting → Type 0
@@ -274,12 +290,14 @@ AllOf r (s ∷ ss) = (registerOf (s .0) ≡ r) × AllOf r ss
 
 all-clear : (g : Field) (r : Register) (ss : List Setting) → registerOf g ≡ r → AllOf r ss → T (clear g ss)
 all-clear g r [] e h = tt
-all-clear g r (s ∷ ss) e h = pair (apart (s .0) g || sameBits (s .0) g) (clear g ss) (apart-or-same (s .0) g (h .0 ∙ sym e)) (all-clear g r ss e (h .1))
+all-clear g r (s ∷ ss) e h =
+    pair (apart (s .0) g || sameBits (s .0) g) (clear g ss) (apart-or-same (s .0) g (h .0 ∙ sym e)) (all-clear g r ss e (h .1))
   where
     pair : (a b : Bool) → T a → T b → T (a && b)
     pair true true s t = tt
 
-pub read-register : (g : Field) (r : Register) (ss : List Setting) (w : ℕ) → registerOf g ≡ r → AllOf r ss → readField g (setAll ss w) ≡ found g ss w
+pub read-register : (g : Field) (r : Register) (ss : List Setting) (w : ℕ) → registerOf g ≡ r → AllOf r ss
+    → readField g (setAll ss w) ≡ found g ss w
 read-register g r ss w e h = read-all g ss w (all-clear g r ss e h)
 
 -- BITS OUTSIDE: m bits from q up that no setting touches, whether the table has a field there or not

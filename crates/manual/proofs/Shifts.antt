@@ -36,7 +36,13 @@ module _ (w p n v : ℕ) (hw : w < 2 ^ 32) (hm : n < 32) (hp : p + n ≤ 32) (hl
   above-lt : w / 2 ^ p / 2 ^ n * 2 ^ n + v % 2 ^ n < 2 ^ (32 - (p + n) + n)
   above-lt = rw pow-add (digits-lt high-lt (mod-lt v (pow-pos n)))
 
-  pub set-bits-eq : bitOr (bitOr (w / 2 ^ p / 2 ^ n * 2 ^ n % 2 ^ 32) (bitAnd v (1 * 2 ^ n % 2 ^ 32 - 1)) * 2 ^ p % 2 ^ 32) (bitAnd w (1 * 2 ^ p % 2 ^ 32 - 1)) ≡ setBits p n v w
+  pub set-bits-eq : bitOr (bitOr (w / 2 ^ p / 2 ^ n * 2 ^ n % 2 ^ 32) (bitAnd v (1 * 2 ^ n % 2 ^ 32 - 1)) * 2 ^ p % 2 ^ 32)
+      (bitAnd w (1 * 2 ^ p % 2 ^ 32 - 1))
+      ≡ setBits p n v w
   set-bits-eq =
-      rw (low-bits v n hm, low-bits w p hl, shl-or (w / 2 ^ p / 2 ^ n) (v % 2 ^ n) (32 - (p + n)) n high-lt (mod-lt v (pow-pos n)) (omega arith))
+      rw (
+        low-bits v n hm,
+        low-bits w p hl,
+        shl-or (w / 2 ^ p / 2 ^ n) (v % 2 ^ n) (32 - (p + n)) n high-lt (mod-lt v (pow-pos n)) (omega arith),
+      )
       (shl-or (w / 2 ^ p / 2 ^ n * 2 ^ n + v % 2 ^ n) (w % 2 ^ p) (32 - (p + n) + n) p above-lt (mod-lt w (pow-pos p)) (omega arith))

@@ -1,10 +1,12 @@
--- The table of the i.MX RT1060 Reference Manual, chapter LPSPI, as far as document 01 names it (SR: the flags of the Rust's `Status`; RSR's SOF beside): each register's byte offset, and each
--- field's lowest bit and width. Every definition that speaks of a field cites this table.
+-- The table of the i.MX RT1060 Reference Manual, chapter LPSPI, as far as document 01 names it (SR: the flags of the Rust's `Status`;
+-- RSR's SOF beside): each register's byte offset, and each field's lowest bit and width. Every definition that speaks of a field cites
+-- this table.
 -- Assumes nothing.
 use Prim.Native.Nat.{ℕ}
 use mathlib.Core.List.{List, [], _∷_}
 use Rattle.manual.specs.declared.Register.{Register}
-use Rattle.manual.specs.declared.Register.the-variants.{PARAM, CR, SR, IER, DER, CFGR0, CFGR1, DMR0, DMR1, CCR, FCR, FSR, TCR, TDR, RSR, RDR}
+use Rattle.manual.specs.declared.Register.the-variants.{PARAM, CR, SR, IER, DER, CFGR0, CFGR1, DMR0}
+use Rattle.manual.specs.declared.Register.the-variants.{DMR1, CCR, FCR, FSR, TCR, TDR, RSR, RDR}
 use Rattle.manual.specs.declared.Param.{Param as ParamField}
 use Rattle.manual.specs.declared.Param.the-variants.{TXFIFO, RXFIFO}
 use Rattle.manual.specs.declared.Cr.{Cr as CrField}

@@ -2,7 +2,8 @@
 ghost use mathlib.Core.Path.{_≡_};
 ghost use Prim.Native.Nat.{_+_, _<_, _≤_};
 ghost use Rattle.manual.specs.Bits.{getBits, setBits};
-ghost use Rattle.manual.specs.Manual.{offsetOf, paramBits, crBits, srBits, cfgr1Bits, ccrBits, fcrBits, fsrBits, tcrBits, rsrBits, bitsOf, readField, setField};
+ghost use Rattle.manual.specs.Manual.{paramBits, crBits, srBits, cfgr1Bits, ccrBits, fcrBits, fsrBits, tcrBits, rsrBits};
+ghost use Rattle.manual.specs.Manual.{offsetOf, bitsOf, readField, setField};
 
 pub enum Register {
     PARAM,

@@ -4,7 +4,10 @@ use Prim.Native.Nat.{_≤_}
 use native.Mathlib.Omega.{arith}
 use lib.ListN.{length}
 use Rattle.sequences.specs.declared.call.Call.{Call}
-use Rattle.sequences.specs.declared.call.Call.the-variants.{SoftReset, RecoverFromError, Init, GetWatermark, SetWatermark, GetStatus, ClearStatus, IsEnabled, SetEnable, ClearFifo, GetFifoStatus, ReadData, EnqueueData, EnqueueTransaction, SetClockConfigs, SetSamplePoint, SetPeripheralEnable, SetChipSelectPolarity}
+use Rattle.sequences.specs.declared.call.Call.the-variants.{SoftReset, RecoverFromError, Init, GetWatermark, SetWatermark, GetStatus}
+use Rattle.sequences.specs.declared.call.Call.the-variants.{ClearStatus, IsEnabled, SetEnable, ClearFifo, GetFifoStatus, ReadData}
+use Rattle.sequences.specs.declared.call.Call.the-variants.{EnqueueData, EnqueueTransaction, SetClockConfigs, SetSamplePoint}
+use Rattle.sequences.specs.declared.call.Call.the-variants.{SetPeripheralEnable, SetChipSelectPolarity}
 use Rattle.sequences.specs.Call.{movesOf}
 
 pub table-fits : (c : Call) → length (movesOf c) ≤ 27

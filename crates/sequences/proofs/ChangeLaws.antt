@@ -1,6 +1,5 @@
--- A modify writes a register with only the named fields changed: every field of it reads back as the change gave it, masked to the field, or as
--- it was before, and every other bit is as it was.
--- Assumes nothing.
+-- A modify writes a register with only the named fields changed: every field of it reads back as the change gave it, masked to the field,
+-- or as it was before, and every other bit is as it was. Assumes nothing.
 use Prim.Native.Nat.{ℕ, _%_}
 use mathlib.Core.List.{List, [], _∷_}
 use mathlib.Core.Path.{_≡_, refl}
@@ -13,7 +12,8 @@ use Rattle.manual.specs.Manual.{registerOf, readField, Setting}
 use Rattle.manual.proofs.ManualLaws.{AllOf, found, read-register, read-all, outside, kept-outside}
 use Rattle.words.specs.declared.transaction.Direction.the-variants.{Tx, Rx}
 use Rattle.sequences.specs.declared.sequence.Change.{Change}
-use Rattle.sequences.specs.declared.sequence.Change.the-variants.{Reset, Release, ClearFifos, ClearFifo, Enable, Restore, Controller, HalfFull, Watermark, Sample, Peripheral, Polarity}
+use Rattle.sequences.specs.declared.sequence.Change.the-variants.{Reset, Release, ClearFifos, ClearFifo, Enable, Restore, Controller}
+use Rattle.sequences.specs.declared.sequence.Change.the-variants.{HalfFull, Watermark, Sample, Peripheral, Polarity}
 use Rattle.sequences.specs.declared.driver.CcrCache.{CcrCache}
 use Rattle.sequences.specs.Sequence.{cachedIn, changeRegister, settingsOf, changed}
 
@@ -34,11 +34,13 @@ of-register (Sample p) kept = (refl, tt)
 of-register (Peripheral on) kept = (refl, tt)
 of-register (Polarity pcs p) kept = (refl, tt)
 
-pub change-reads : (c : Change) (kept : List ℕ) (g : Field) (w : ℕ) → registerOf g ≡ changeRegister c → readField g (changed c kept w) ≡ found g (settingsOf c kept) w
+pub change-reads : (c : Change) (kept : List ℕ) (g : Field) (w : ℕ) → registerOf g ≡ changeRegister c
+    → readField g (changed c kept w) ≡ found g (settingsOf c kept) w
 change-reads c kept g w e = read-register g (changeRegister c) (settingsOf c kept) w e (of-register c kept)
 
 -- bits outside the named fields, whether the table has a field there or not
-pub change-keeps : (c : Change) (kept : List ℕ) (q m w : ℕ) → T (outside q m (settingsOf c kept)) → getBits q m (changed c kept w) ≡ getBits q m w
+pub change-keeps : (c : Change) (kept : List ℕ) (q m w : ℕ) → T (outside q m (settingsOf c kept))
+    → getBits q m (changed c kept w) ≡ getBits q m w
 change-keeps c kept q m w h = kept-outside q m (settingsOf c kept) w h
 
 -- CCR as `soft_reset` writes it: DBT and SCKDIV from the cache, the others as they were read

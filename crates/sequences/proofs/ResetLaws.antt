@@ -12,7 +12,8 @@ use lib.ListN.{getD}
 use Rattle.manual.specs.declared.Cr.the-variants.{MEN, RST, RTF, RRF}
 use Rattle.manual.specs.declared.Field.the-variants.{Cr}
 use Rattle.manual.specs.declared.Register.{Register}
-use Rattle.manual.specs.declared.Register.the-variants.{PARAM, CR, SR, IER, DER, CFGR0, CFGR1, DMR0, DMR1, CCR, FCR, FSR, TCR, TDR, RSR, RDR}
+use Rattle.manual.specs.declared.Register.the-variants.{PARAM, CR, SR, IER, DER, CFGR0, CFGR1, DMR0}
+use Rattle.manual.specs.declared.Register.the-variants.{DMR1, CCR, FCR, FSR, TCR, TDR, RSR, RDR}
 use Rattle.manual.specs.Manual.{readField, setField}
 use Rattle.sequences.specs.declared.access.Access.{Access}
 use Rattle.sequences.specs.declared.access.Access.the-variants.{Read, Write, Done}
@@ -52,8 +53,8 @@ in-slot RDR = refl
 pub slots-differ : (r q : Register) → slotOf r ≡ slotOf q → r ≡ q
 slots-differ r q e = sym (in-slot r) ∙ ap (λ (n : ℕ). getD registers n PARAM) e ∙ in-slot q
 
--- THE ANSWERS that a whole reset reads, in its order: the kept registers; CR before it is reset; while MEN is 1; the first with MEN 0; CR before RST
--- is released, before the FIFOs are cleared, and before MEN is restored
+-- THE ANSWERS that a whole reset reads, in its order: the kept registers; CR before it is reset; while MEN is 1; the first with MEN 0; CR
+-- before RST is released, before the FIFOs are cleared, and before MEN is restored
 pub record Answers : Type 0 where
   pub ier : ℕ
   pub der : ℕ
@@ -168,7 +169,8 @@ module _ (tail : List Move) (last : Move) where
     wait-dues [] rest h = refl
     wait-dues (v ∷ vs) rest h =
         let s = stays v vs h in
-        ap₂ (λ (x : Access) (xs : List Access). x ∷ xs) (accesses waiting refl) (ap (λ (t : Sequence). dues due next t (vs ++ rest)) (s .0) ∙ wait-dues vs rest (s .1))
+        ap₂ (λ (x : Access) (xs : List Access). x ∷ xs) (accesses waiting refl)
+        (ap (λ (t : Sequence). dues due next t (vs ++ rest)) (s .0) ∙ wait-dues vs rest (s .1))
 
     wait-answered : (vs rest : List ℕ) → T (stillEnabled vs) → answered next waiting (vs ++ rest) ≡ answered next waiting rest
     wait-answered [] rest h = refl
@@ -197,7 +199,10 @@ module _ (tail : List Move) (last : Move) where
 
     module _ (still : T (stillEnabled (a .enabled))) (off : eqb (readField (Cr MEN) (a .disabled)) 1 ≡ false) where
       after-makes : dues due next released (after-wait a) ≡ restores d a
-      after-makes = ap (λ (vs : List ℕ). dues due next released vs) (sym (append-nil (after-wait a))) ∙ by-table released (after-wait a) [] tt ∙ append-nil (restores d a)
+      after-makes =
+          ap (λ (vs : List ℕ). dues due next released vs) (sym (append-nil (after-wait a)))
+          ∙ by-table released (after-wait a) [] tt
+          ∙ append-nil (restores d a)
 
       makes-all : dues due next (sequenceStart d) (told a) ≡ resetAccesses d a
       makes-all =
@@ -205,15 +210,19 @@ module _ (tail : List Move) (last : Move) where
           ∙ ap (λ (xs : List Access). keeps d a ++ xs)
           (wait-dues (a .enabled) (a .disabled ∷ after-wait a) still
           ∙ ap (λ (xs : List Access). waits (a .enabled) ++ xs)
-          (ap₂ (λ (x : Access) (xs : List Access). x ∷ xs) (accesses waiting refl) (ap (λ (s : Sequence). dues due next s (after-wait a)) (goes-on off) ∙ after-makes)))
+          (ap₂ (λ (x : Access) (xs : List Access). x ∷ xs) (accesses waiting refl)
+          (ap (λ (s : Sequence). dues due next s (after-wait a)) (goes-on off) ∙ after-makes)))
 
       at-end : answered next (sequenceStart d) (told a) ≡ answered next released (after-wait a)
-      at-end = wait-answered (a .enabled) (a .disabled ∷ after-wait a) still ∙ ap (λ (s : Sequence). answered next s (after-wait a)) (goes-on off)
+      at-end =
+          wait-answered (a .enabled) (a .disabled ∷ after-wait a) still
+          ∙ ap (λ (s : Sequence). answered next s (after-wait a)) (goes-on off)
 
       resets : (x : Access) → moveAccess (table 26) (answered next released (after-wait a)) ≡ x → Resets due next d a x
       resets x e = record { makes = makes-all; ends = ap due at-end ∙ accesses (answered next released (after-wait a)) refl ∙ e }
 
--- WHAT IS WRITTEN BACK IS WHAT WAS READ: by `soft_reset`, by `recover_from_error`, and by a transfer's recovery, whatever the registers answer
+-- WHAT IS WRITTEN BACK IS WHAT WAS READ: by `soft_reset`, by `recover_from_error`, and by a transfer's recovery, whatever the registers
+-- answer
 module _ (d : Lpspi) (a : Answers) (still : T (stillEnabled (a .enabled))) (off : eqb (readField (Cr MEN) (a .disabled)) 1 ≡ false) where
   pub soft-reset-restores : Resets (callAccess SoftReset) (callAfter SoftReset) d a (Done Ok)
   unfolding callAccess callAfter
@@ -221,7 +230,11 @@ module _ (d : Lpspi) (a : Answers) (still : T (stillEnabled (a .enabled))) (off 
 
   pub recover-restores : Resets (callAccess RecoverFromError) (callAfter RecoverFromError) d a (Write SR (cleared errors))
   unfolding callAccess callAfter
-  recover-restores = resets (clearStatus errors) End (callAccess RecoverFromError) (λ s e. rw e refl) d a still off (Write SR (cleared errors)) refl
+  recover-restores =
+      resets (clearStatus errors) End (callAccess RecoverFromError) (λ s e. rw e refl) d a still off
+      (Write SR (cleared errors)) refl
 
   pub recovery-restores : Resets recoveryAccess recoveryAfter d a (Write SR (cleared errors))
-  recovery-restores = resets (clearStatus errors) (WriteMove SR (cleared errors)) recoveryAccess (λ s e. refl) d a still off (Write SR (cleared errors)) refl
+  recovery-restores =
+      resets (clearStatus errors) (WriteMove SR (cleared errors)) recoveryAccess (λ s e. refl) d a still off
+      (Write SR (cleared errors)) refl

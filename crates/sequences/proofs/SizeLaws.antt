@@ -21,7 +21,8 @@ use Rattle.sequences.specs.declared.call.Call.{Call}
 use Rattle.sequences.specs.declared.call.Call.the-variants.{Init, SetWatermark}
 use Rattle.sequences.specs.declared.driver.Lpspi.{Lpspi}
 use Rattle.sequences.specs.declared.sequence.Move.{Move}
-use Rattle.sequences.specs.declared.sequence.Move.the-variants.{Keep, KeepClock, Look, Wait, WaitClock, Size, Arrived, Modify, Set, Write, Put, End}
+use Rattle.sequences.specs.declared.sequence.Move.the-variants.{Keep, KeepClock, Look, Wait, WaitClock, Size}
+use Rattle.sequences.specs.declared.sequence.Move.the-variants.{Arrived, Modify, Set, Write, Put, End}
 use Rattle.sequences.specs.declared.sequence.Sequence.{Sequence}
 use Rattle.sequences.specs.Sequence.{keptOf, keeping, onward, oversized, exponentOf, sizeOf, moved, moveAt}
 use Rattle.sequences.specs.Call.{movesOf, callStart, callAfter}
@@ -68,7 +69,8 @@ module _ (d : Direction) where
   test-at (m ∷ ms) zero h = and-yes (tests m) (allTest ms) h .0
   test-at (m ∷ ms) (suc n) h = test-at ms n (and-yes (tests m) (allTest ms) h .1)
 
-  kept-small : (kept : List ℕ) (v : ℕ) → exponentOf d v ≤ 4 → exponentOf d (keptOf PARAM kept) ≤ 4 → exponentOf d (keptOf PARAM (set kept 0 v)) ≤ 4
+  kept-small : (kept : List ℕ) (v : ℕ) → exponentOf d v ≤ 4 → exponentOf d (keptOf PARAM kept) ≤ 4
+      → exponentOf d (keptOf PARAM (set kept 0 v)) ≤ 4
   kept-small [] v l h = h
   kept-small (k ∷ ks) v l h = l
 
@@ -101,7 +103,8 @@ module _ (d : Direction) where
     reached-small : (s : Sequence) (vs : List ℕ) → Small s → Small (answered (callAfter c) s vs)
     unfolding callAfter
     reached-small s [] h = h
-    reached-small s (v ∷ vs) h = reached-small (callAfter c s v) vs (moved-small (moveAt (movesOf c) (s .place)) s v (test-at (movesOf c) (s .place) t) h)
+    reached-small s (v ∷ vs) h =
+        reached-small (callAfter c s v) vs (moved-small (moveAt (movesOf c) (s .place)) s v (test-at (movesOf c) (s .place) t) h)
 
 -- the size that is asked for is the manual's 2^e
 abbrev pub TrueSize : Direction → Sequence → Type 0
@@ -121,7 +124,9 @@ init-size driver vs = true-size _ (reached-small Tx Init tt (callStart Init driv
 pub watermark-size : (d : Direction) (watermark : ℕ) (driver : Lpspi) (vs : List ℕ)
     → TrueSize d (answered (callAfter (SetWatermark d watermark)) (callStart (SetWatermark d watermark) driver) vs)
 watermark-size d watermark driver vs =
-    true-size _ (reached-small d (SetWatermark d watermark) (tested d) (callStart (SetWatermark d watermark) driver) vs (start-small d (SetWatermark d watermark) driver))
+    true-size _
+    (reached-small d (SetWatermark d watermark) (tested d) (callStart (SetWatermark d watermark) driver) vs
+    (start-small d (SetWatermark d watermark) driver))
   where
     tested : (d : Direction) → T (allTest d (movesOf (SetWatermark d watermark)))
     tested Tx = tt

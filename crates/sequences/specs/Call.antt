@@ -11,8 +11,12 @@ use Rattle.sequences.specs.declared.access.Access.the-variants.{Done}
 use Rattle.sequences.specs.declared.access.Ending.the-variants.{FifoExponent}
 use Rattle.sequences.specs.declared.driver.Lpspi.{Lpspi}
 use Rattle.sequences.specs.declared.call.Call.{Call}
-use Rattle.sequences.specs.declared.call.Call.the-variants.{SoftReset, RecoverFromError, Init, GetWatermark, SetWatermark, GetStatus, ClearStatus, IsEnabled, SetEnable, ClearFifo, GetFifoStatus, ReadData, EnqueueData, EnqueueTransaction, SetClockConfigs, SetSamplePoint, SetPeripheralEnable, SetChipSelectPolarity}
-use Rattle.sequences.specs.declared.sequence.Change.the-variants.{ClearFifo as ClearOne, Enable, Restore, Controller, HalfFull, Watermark, Sample, Peripheral, Polarity}
+use Rattle.sequences.specs.declared.call.Call.the-variants.{SoftReset, RecoverFromError, Init, GetStatus, ClearStatus}
+use Rattle.sequences.specs.declared.call.Call.the-variants.{IsEnabled, SetEnable, GetWatermark, SetWatermark, ClearFifo}
+use Rattle.sequences.specs.declared.call.Call.the-variants.{GetFifoStatus, ReadData, EnqueueData, EnqueueTransaction, SetClockConfigs}
+use Rattle.sequences.specs.declared.call.Call.the-variants.{SetSamplePoint, SetPeripheralEnable, SetChipSelectPolarity}
+use Rattle.sequences.specs.declared.sequence.Change.the-variants.{ClearFifo as ClearOne, Enable, Restore, Controller, HalfFull}
+use Rattle.sequences.specs.declared.sequence.Change.the-variants.{Watermark, Sample, Peripheral, Polarity}
 use Rattle.sequences.specs.declared.sequence.Move.{Move}
 use Rattle.sequences.specs.declared.sequence.Move.the-variants.{Keep, Look, Wait, WaitClock, Size, Arrived, Set, Write}
 use Rattle.sequences.specs.declared.sequence.Sequence.{Sequence}

@@ -15,7 +15,8 @@ use Rattle.manual.specs.declared.Rsr.the-variants.{RXEMPTY}
 use Rattle.manual.specs.declared.Field.{Field}
 use Rattle.manual.specs.declared.Field.the-variants.{Cr, Cfgr1, Ccr, Fcr, Param, Rsr}
 use Rattle.manual.specs.declared.Register.{Register}
-use Rattle.manual.specs.declared.Register.the-variants.{PARAM, CR, SR, IER, DER, CFGR0, CFGR1, DMR0, DMR1, CCR, FCR, FSR, TCR, TDR, RSR, RDR}
+use Rattle.manual.specs.declared.Register.the-variants.{PARAM, CR, SR, IER, DER, CFGR0, CFGR1, DMR0}
+use Rattle.manual.specs.declared.Register.the-variants.{DMR1, CCR, FCR, FSR, TCR, TDR, RSR, RDR}
 use Rattle.manual.specs.Bits.{setBits}
 use Rattle.manual.specs.Manual.{readField, setField, Setting, setAll}
 use Rattle.words.specs.declared.mode.Pcs.{Pcs}
@@ -29,9 +30,11 @@ use Rattle.sequences.specs.declared.driver.CcrCache.{CcrCache}
 use Rattle.sequences.specs.declared.driver.Lpspi.{Lpspi}
 use Rattle.sequences.specs.declared.settings.PcsPolarity.{PcsPolarity}
 use Rattle.sequences.specs.declared.sequence.Change.{Change}
-use Rattle.sequences.specs.declared.sequence.Change.the-variants.{Reset, Release, ClearFifos, ClearFifo, Enable, Restore, Controller, HalfFull, Watermark, Sample, Peripheral, Polarity}
+use Rattle.sequences.specs.declared.sequence.Change.the-variants.{Reset, Release, ClearFifos, ClearFifo, Enable, Restore}
+use Rattle.sequences.specs.declared.sequence.Change.the-variants.{Controller, HalfFull, Watermark, Sample, Peripheral, Polarity}
 use Rattle.sequences.specs.declared.sequence.Move.{Move}
-use Rattle.sequences.specs.declared.sequence.Move.the-variants.{Keep, KeepClock, Look, Wait, WaitClock, Size, Arrived, Modify, Set, Write, Put, End}
+use Rattle.sequences.specs.declared.sequence.Move.the-variants.{Keep, KeepClock, Look, Wait, WaitClock, Size, Arrived}
+use Rattle.sequences.specs.declared.sequence.Move.the-variants.{Modify, Set, Write, Put, End}
 use Rattle.sequences.specs.declared.sequence.Sequence.{Sequence}
 use Rattle.sequences.specs.Driver.{withClock}
 use Rattle.sequences.specs.Settings.{sampleOf, pcspolOf}

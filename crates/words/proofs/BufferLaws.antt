@@ -6,7 +6,8 @@ use mathlib.Core.Path.{_≡_, refl, sym, ap, ap₂, _∙_, subst}
 use mathlib.Core.List.{List, [], _∷_, _++_, append-nil, append-assoc}
 use native.Mathlib.Numerals.{add-one, sub-one}
 use native.Mathlib.Omega.{arith}
-use native.Mathlib.Nat.{le-trans, mul-one, mul-add, mul-div-le, mul-suc, mul-zero, mul-comm, sub-zero, zero-sub, sub-eq-zero-of-le, zero-min, min-zero, suc-min-suc, suc-sub-suc, lt-div-mul-add, mul-le-mul-left}
+use native.Mathlib.Nat.{le-trans, mul-one, mul-add, mul-div-le, mul-suc, mul-zero, mul-comm, sub-zero, zero-sub, sub-eq-zero-of-le}
+use native.Mathlib.Nat.{zero-min, min-zero, suc-min-suc, suc-sub-suc, lt-div-mul-add, mul-le-mul-left}
 use borrow.Author.Tests.{leb-true, leb-false, eqb-true, le-leb, lt-leb}
 use borrow.Rule.Slice.PartMut.{putMid}
 use lib.Dec.{leb, eqb}
@@ -61,7 +62,9 @@ filled-last d (suc n) (x ∷ xs) = ap (λ (l : List ℕ). x ∷ l) (filled-last 
 
 -- a word of n elements fits n elements, and grows by one
 pub word-lt : (o : BitOrder) (k d n : ℕ) (xs : List ℕ) → d < 2 ^ k → Elements k xs → pack o k (filled d n xs) < 2 ^ (k * n)
-word-lt o k d n xs h b = subst (λ (m : ℕ). pack o k (filled d n xs) < 2 ^ (k * m)) (length-filled d n xs) (pack-lt o k (filled d n xs) (elements-filled k d n xs h b))
+word-lt o k d n xs h b =
+    subst (λ (m : ℕ). pack o k (filled d n xs) < 2 ^ (k * m)) (length-filled d n xs)
+    (pack-lt o k (filled d n xs) (elements-filled k d n xs h b))
 
 pub word-step : (o : BitOrder) (k d n at x w r : ℕ) (xs : List ℕ) → x ≡ getD xs (at + n) d → w ≡ pack o k (filled d n (drop at xs))
     → r ≡ joined (reversed o) k n x w → r ≡ pack o k (filled d (n + 1) (drop at xs))
@@ -97,7 +100,9 @@ filled-split : (d n p : ℕ) (xs : List ℕ) → filled d n xs ≡ filled d (min
 filled-split d n zero xs = rw (zero-min n, sub-zero n)
 filled-split d zero (suc p) xs = rw (min-zero, zero-sub)
 filled-split d (suc n) (suc p) [] =
-    rw (suc-min-suc p n, suc-sub-suc n p) (ap (λ (l : List ℕ). d ∷ l) (filled-split d n p [] ∙ ap (λ (l : List ℕ). filled d (min p n) [] ++ filled d (n - p) l) (drop-nil p)))
+    rw (suc-min-suc p n, suc-sub-suc n p)
+    (ap (λ (l : List ℕ). d ∷ l)
+    (filled-split d n p [] ∙ ap (λ (l : List ℕ). filled d (min p n) [] ++ filled d (n - p) l) (drop-nil p)))
 filled-split d (suc n) (suc p) (x ∷ xs) =
     rw (suc-min-suc p n, suc-sub-suc n p) (ap (λ (l : List ℕ). x ∷ l) (filled-split d n p xs))
 
@@ -151,7 +156,8 @@ laid-store n f [] h = absurd (omega arith)
 laid-store zero f (b ∷ bs) h = refl
 laid-store (suc n) f (b ∷ bs) h = ap (λ (l : List ℕ). f 0 ∷ l) (laid-store n (λ i. f (suc i)) bs (omega arith))
 
-pub store-step : (n x : ℕ) (f : ℕ → ℕ) (bs ws : List ℕ) → n < length bs → x ≡ f n → ws ≡ laid (tabulate n f) bs → set ws n x ≡ laid (tabulate (n + 1) f) bs
+pub store-step : (n x : ℕ) (f : ℕ → ℕ) (bs ws : List ℕ) → n < length bs → x ≡ f n → ws ≡ laid (tabulate n f) bs
+    → set ws n x ≡ laid (tabulate (n + 1) f) bs
 store-step n x f bs ws h ex ew =
     ap₂ (λ (l : List ℕ) (y : ℕ). set l n y) ew ex ∙ laid-store n f bs h ∙ ap (λ (m : ℕ). laid (tabulate m f) bs) (sym (add-one n))
 
@@ -166,7 +172,9 @@ laid-stop (suc n) (suc m) f (b ∷ bs) h s =
 
 pub tabulate-same : (n : ℕ) (f g : ℕ → ℕ) → ((i : ℕ) → i < n → f i ≡ g i) → tabulate n f ≡ tabulate n g
 tabulate-same zero f g h = refl
-tabulate-same (suc n) f g h = ap₂ (λ (x : ℕ) (l : List ℕ). x ∷ l) (h 0 (omega arith)) (tabulate-same n (λ i. f (suc i)) (λ i. g (suc i)) (λ i l. h (suc i) (omega arith)))
+tabulate-same (suc n) f g h =
+    ap₂ (λ (x : ℕ) (l : List ℕ). x ∷ l) (h 0 (omega arith))
+    (tabulate-same n (λ i. f (suc i)) (λ i. g (suc i)) (λ i l. h (suc i) (omega arith)))
 
 pub store-stop : (n m : ℕ) (f g : ℕ → ℕ) (bs ws : List ℕ) → n ≤ m → (n < m → length bs ≤ n) → ((i : ℕ) → i < m → f i ≡ g i)
     → ws ≡ laid (tabulate n f) bs → ws ≡ laid (tabulate m g) bs
@@ -178,7 +186,8 @@ laid-part m [] bs h = take-append-drop m bs
 laid-part zero (x ∷ xs) [] h = refl
 laid-part zero (x ∷ xs) (b ∷ bs) h = let l = h (omega arith) in absurd (omega arith)
 laid-part (suc m) (x ∷ xs) [] h = refl
-laid-part (suc m) (x ∷ xs) (b ∷ bs) h = ap (λ (l : List ℕ). x ∷ l) (laid-part m xs bs (λ (l : m < length bs). let r = h (omega arith) in omega arith))
+laid-part (suc m) (x ∷ xs) (b ∷ bs) h =
+    ap (λ (l : List ℕ). x ∷ l) (laid-part m xs bs (λ (l : m < length bs). let r = h (omega arith) in omega arith))
 
 -- a part of a buffer, m places from `at` on, that comes back with elements laid over it
 put-laid : (at m : ℕ) (bs xs ys : List ℕ) → ys ≡ laid xs (take m (drop at bs)) → (m < length bs - at → length xs ≤ m)
@@ -199,17 +208,21 @@ pub left-suc : (k total n : ℕ) → total - perWord k * suc n ≡ total - perWo
 left-suc k total n = omega (arith, mul-suc (perWord k) n)
 
 -- the first n words, and the others
-unpack-split : (o : BitOrder) (k total n : ℕ) (ws : List ℕ) → unpackWords o k total ws ≡ unpackWords o k total (take n ws) ++ unpackWords o k (total - perWord k * n) (drop n ws)
+unpack-split : (o : BitOrder) (k total n : ℕ) (ws : List ℕ)
+    → unpackWords o k total ws ≡ unpackWords o k total (take n ws) ++ unpackWords o k (total - perWord k * n) (drop n ws)
 unpack-split o k total zero ws = rw (mul-zero (perWord k), sub-zero total)
 unpack-split o k total (suc n) [] = refl
 unpack-split o k total (suc n) (w ∷ ws) =
     let here = unpack o k (min (perWord k) total) w in
     rw (left-suc k total n)
     (ap (λ (l : List ℕ). here ++ l) (unpack-split o k (total - perWord k) n ws)
-    ∙ sym (append-assoc here (unpackWords o k (total - perWord k) (take n ws)) (unpackWords o k (total - perWord k - perWord k * n) (drop n ws))))
+    ∙ sym
+    (append-assoc here (unpackWords o k (total - perWord k) (take n ws))
+    (unpackWords o k (total - perWord k - perWord k * n) (drop n ws))))
 
 -- words past the total have no elements
-pub unpack-past : (o : BitOrder) (k total n : ℕ) (ws : List ℕ) → total ≤ perWord k * n → unpackWords o k total (take n ws) ≡ unpackWords o k total ws
+pub unpack-past : (o : BitOrder) (k total n : ℕ) (ws : List ℕ) → total ≤ perWord k * n
+    → unpackWords o k total (take n ws) ≡ unpackWords o k total ws
 unpack-past o k total n ws h =
     let front = unpackWords o k total (take n ws) in
     let none : unpackWords o k (total - perWord k * n) (drop n ws) ≡ [] = rw (sub-eq-zero-of-le h) (unpack-nothing o k (drop n ws)) in
@@ -224,15 +237,19 @@ unpack-last o k total (suc i) (w ∷ ws) h =
     let here = unpack o k (min (perWord k) total) w in
     rw (left-suc k total i)
     (ap (λ (l : List ℕ). here ++ l) (unpack-last o k (total - perWord k) i ws (omega arith))
-    ∙ sym (append-assoc here (unpackWords o k (total - perWord k) (take i ws)) (unpack o k (countAt k (total - perWord k) i) (getD ws i 0))))
+    ∙ sym
+    (append-assoc here (unpackWords o k (total - perWord k) (take i ws))
+    (unpack o k (countAt k (total - perWord k) i) (getD ws i 0))))
 
-unpack-length : (o : BitOrder) (k total n : ℕ) (ws : List ℕ) → n ≤ length ws → perWord k * n ≤ total → length (unpackWords o k total (take n ws)) ≡ perWord k * n
+unpack-length : (o : BitOrder) (k total n : ℕ) (ws : List ℕ) → n ≤ length ws → perWord k * n ≤ total
+    → length (unpackWords o k total (take n ws)) ≡ perWord k * n
 unpack-length o k total zero ws h l = sym (mul-zero (perWord k))
 unpack-length o k total (suc n) [] h l = absurd (omega arith)
 unpack-length o k total (suc n) (w ∷ ws) h l =
     let m = mul-suc (perWord k) n in
     length-append (unpack o k (min (perWord k) total) w) (unpackWords o k (total - perWord k) (take n ws))
-    ∙ ap₂ (λ (a b : ℕ). a + b) (length-unpack o k (min (perWord k) total) w) (unpack-length o k (total - perWord k) n ws (omega arith) (omega arith))
+    ∙ ap₂ (λ (a b : ℕ). a + b) (length-unpack o k (min (perWord k) total) w)
+    (unpack-length o k (total - perWord k) n ws (omega arith) (omega arith))
     ∙ omega arith
 
 -- whole words do not depend on how much longer the transfer is
@@ -256,7 +273,8 @@ holds-one U16 = omega arith
 holds-one U32 = omega arith
 
 pub enough-words : (k total : ℕ) → 0 < perWord k → total ≤ perWord k * wordCount k total
-enough-words k total h = omega (arith, lt-div-mul-add {a = total + (perWord k - 1)} {b = perWord k} h, mul-comm (perWord k) (wordCount k total))
+enough-words k total h =
+    omega (arith, lt-div-mul-add {a = total + (perWord k - 1)} {b = perWord k} h, mul-comm (perWord k) (wordCount k total))
 
 -- n words: those received, or as many as total and buffer hold whole; where words are left, the shorter of the two ends with the next
 pub whole-words : (k n e total len size : ℕ) → 0 < perWord k → n ≡ min len (e / perWord k) → e ≡ min total size
@@ -269,7 +287,8 @@ whole-words k n e total len size h en ee =
       omega arith,
       omega arith,
       omega arith,
-      λ (l : n < len). let same : n ≡ q = omega arith in rw (← ee, same) (omega (arith, mul-comm q (perWord k), mul-add (perWord k) q 1, mul-one (perWord k))),
+      λ (l : n < len). let same : n ≡ q = omega arith in
+          rw (← ee, same) (omega (arith, mul-comm q (perWord k), mul-add (perWord k) q 1, mul-one (perWord k))),
     )
 
 -- ONE WORD, with the number
@@ -287,8 +306,10 @@ Unpacked o k c w bs n ys = (n ≡ unpackedNumber k c) × (ys ≡ unpacked o k c 
 pub unpacked-many : (o : BitOrder) (k c w : ℕ) (bs : List ℕ) → perWord k < c → Unpacked o k c w bs tooManyNumber bs
 unpacked-many o k c w bs h = let e = lt-leb c (perWord k) h in (simp e, simp e)
 
-pub unpacked-few : (o : BitOrder) (k c n w : ℕ) (bs ys : List ℕ) → c ≤ perWord k → unpackCount k c ≡ n → ys ≡ laid (unpack o k n w) bs → Unpacked o k c w bs 0 ys
-unpacked-few o k c n w bs ys h en ey = let e = le-leb c (perWord k) h in (simp e, ey ∙ ap (λ (m : ℕ). laid (unpack o k m w) bs) (sym en) ∙ simp e)
+pub unpacked-few : (o : BitOrder) (k c n w : ℕ) (bs ys : List ℕ) → c ≤ perWord k → unpackCount k c ≡ n
+    → ys ≡ laid (unpack o k n w) bs → Unpacked o k c w bs 0 ys
+unpacked-few o k c n w bs ys h en ey =
+    let e = le-leb c (perWord k) h in (simp e, ey ∙ ap (λ (m : ℕ). laid (unpack o k m w) bs) (sym en) ∙ simp e)
 
 -- THERE AND BACK through the word entries, for a count of 1 or more
 counted : (k c : ℕ) → 1 ≤ c → c ≤ perWord k → unpackCount k c ≡ c
@@ -307,7 +328,8 @@ pub entry-pack-unpack : (o : BitOrder) (k w : ℕ) (bs : List ℕ) → 1 ≤ len
     → packed o k (unpacked o k (length bs) w bs) ≡ ok (w % 2 ^ (k * length bs))
 entry-pack-unpack o k w bs h l =
     let e = le-leb (length bs) (perWord k) l in
-    let all : unpacked o k (length bs) w bs ≡ unpack o k (length bs) w = simp (e, counted k (length bs) h l) (laid-whole (unpack o k (length bs) w) bs (length-unpack o k (length bs) w)) in
+    let all : unpacked o k (length bs) w bs ≡ unpack o k (length bs) w =
+    simp (e, counted k (length bs) h l) (laid-whole (unpack o k (length bs) w) bs (length-unpack o k (length bs) w)) in
     rw all (simp (length-unpack o k (length bs) w, e) (ap ok (pack-unpack o k (length bs) w)))
 
 -- THE LOOP: it lays word i at its place, and may stop where total or buffer end
@@ -343,7 +365,8 @@ unpack-stop o k total n ws bs h s =
     (λ (t : perWord k * n < total).
     let m = s l in
     sym (ap (λ (x : List ℕ). laid x bs) (unpack-split o k total n ws)
-    ∙ laid-dropped (unpackWords o k total (take n ws)) (unpackWords o k (total - perWord k * n) (drop n ws)) bs (omega (arith, unpack-length o k total n ws h (omega arith))))))
+    ∙ laid-dropped (unpackWords o k total (take n ws)) (unpackWords o k (total - perWord k * n) (drop n ws)) bs
+    (omega (arith, unpack-length o k total n ws h (omega arith))))))
 
 -- a whole word of elements that are all there
 filled-whole : (d e n : ℕ) (xs : List ℕ) → n ≤ length xs → filled d n xs ≡ tabulate n (λ (j : ℕ). getD xs j e)
@@ -361,7 +384,8 @@ word-whole o k total i at xs ea hx ht =
     ∙ ap₂ (λ (m p : ℕ). filled (dummy k) m (drop p xs)) (sym n) ea)
 
 -- which does not depend on how much longer the transfer is
-word-prefix : (o : BitOrder) (k total n i : ℕ) (xs : List ℕ) → i < n → perWord k * n ≤ total → wordAt o k (perWord k * n) xs i ≡ wordAt o k total xs i
+word-prefix : (o : BitOrder) (k total n i : ℕ) (xs : List ℕ) → i < n → perWord k * n ≤ total
+    → wordAt o k (perWord k * n) xs i ≡ wordAt o k total xs i
 word-prefix o k total n i xs h l =
     let m : perWord k * suc i ≤ perWord k * n = mul-le-mul-left (perWord k) h in
     let e : countAt k (perWord k * n) i ≡ countAt k total i = omega (arith, mul-suc (perWord k) i) in
@@ -383,16 +407,19 @@ word-32 o total i xs h =
     ∙ getD-drop (1 * i) xs 0 (dummy 32) ∙ ap (λ (n : ℕ). getD xs n (dummy 32)) (omega arith))
 
 -- and the elements are the words
-pub unpack-32 : (o : BitOrder) (total : ℕ) (ws : List ℕ) → Elements 32 ws → unpackWords o 32 total ws ≡ tabulate (min total (length ws)) (λ (i : ℕ). getD ws i 0)
+pub unpack-32 : (o : BitOrder) (total : ℕ) (ws : List ℕ) → Elements 32 ws
+    → unpackWords o 32 total ws ≡ tabulate (min total (length ws)) (λ (i : ℕ). getD ws i 0)
 unpack-32 o total [] b = rw (min-zero total)
 unpack-32 o zero (w ∷ ws) b = rw (zero-min (suc (length ws))) (unpack-nothing o 32 (w ∷ ws))
 unpack-32 o (suc total) (w ∷ ws) b =
     let one : min 1 (suc total) ≡ 1 = omega arith in
-    rw (one, sub-one (suc total), suc-min-suc total (length ws), first-one o w (b 0)) (ap (λ (l : List ℕ). w ∷ l) (unpack-32 o total ws (λ i. b (suc i))))
+    rw (one, sub-one (suc total), suc-min-suc total (length ws), first-one o w (b 0))
+    (ap (λ (l : List ℕ). w ∷ l) (unpack-32 o total ws (λ i. b (suc i))))
 
 -- THERE AND BACK
 
-pub word-suc : (o : BitOrder) (k total i : ℕ) (xs : List ℕ) → wordAt o k total xs (suc i) ≡ wordAt o k (total - perWord k) (drop (perWord k) xs) i
+pub word-suc : (o : BitOrder) (k total i : ℕ) (xs : List ℕ)
+    → wordAt o k total xs (suc i) ≡ wordAt o k (total - perWord k) (drop (perWord k) xs) i
 word-suc o k total i xs =
     let p : perWord k * suc i ≡ perWord k + perWord k * i = omega (arith, mul-suc (perWord k) i) in
     rw (left-suc k total i, p, drop-drop)
@@ -407,9 +434,14 @@ unpack-packed o k (suc m) total xs b h =
     let here : unpack o k c (pack o k (filled (dummy k) c xs)) ≡ filled (dummy k) c xs =
     subst (λ (n : ℕ). unpack o k n (pack o k (filled (dummy k) c xs)) ≡ filled (dummy k) c xs) (length-filled (dummy k) c xs)
     (unpack-pack o k (filled (dummy k) c xs) (elements-filled k (dummy k) c xs (ones-lt k) b)) in
-    let there = unpack-packed o k m (total - perWord k) (drop (perWord k) xs) (elements-drop k (perWord k) xs b) (omega (arith, mul-suc (perWord k) m)) in
+    let there =
+    unpack-packed o k m (total - perWord k) (drop (perWord k) xs) (elements-drop k (perWord k) xs b)
+    (omega (arith, mul-suc (perWord k) m)) in
     ap₂ (λ (a l : List ℕ). a ++ l) (ap (unpack o k c) word ∙ here)
-    (ap (unpackWords o k (total - perWord k)) (tabulate-same m (λ i. wordAt o k total xs (suc i)) (wordAt o k (total - perWord k) (drop (perWord k) xs)) (λ i l. word-suc o k total i xs)) ∙ there)
+    (ap (unpackWords o k (total - perWord k))
+    (tabulate-same m (λ i. wordAt o k total xs (suc i)) (wordAt o k (total - perWord k) (drop (perWord k) xs))
+    (λ i l. word-suc o k total i xs))
+    ∙ there)
     ∙ sym (filled-split (dummy k) total (perWord k) xs)
 
 -- what was packed is unpacked as the elements of the transfer: those of xs, and dummies
@@ -418,13 +450,19 @@ pub unpack-pack-words : (o : BitOrder) (k total : ℕ) (xs : List ℕ) → 0 < p
 unpack-pack-words o k total xs h b = unpack-packed o k (wordCount k total) total xs b (enough-words k total h)
 
 -- the words after the first
-pub drop-unpacked : (o : BitOrder) (k total w : ℕ) (ws : List ℕ) → drop (perWord k) (unpackWords o k total (w ∷ ws)) ≡ unpackWords o k (total - perWord k) ws
+pub drop-unpacked : (o : BitOrder) (k total w : ℕ) (ws : List ℕ)
+    → drop (perWord k) (unpackWords o k total (w ∷ ws)) ≡ unpackWords o k (total - perWord k) ws
 drop-unpacked o k total w ws =
     by-order (perWord k) total
     (λ (l : perWord k ≤ total). drop-at here later (perWord k) (length-unpack o k (min (perWord k) total) w ∙ omega arith))
     (λ (l : total < perWord k).
-    let none : later ≡ [] = ap (λ (m : ℕ). unpackWords o k m ws) (sub-eq-zero-of-le {n = total} {m = perWord k} (omega arith)) ∙ unpack-nothing o k ws in
-    ap (λ (x : List ℕ). drop (perWord k) (here ++ x)) none ∙ drop-of-length-le (here ++ []) {i = perWord k} (omega (arith, length-append here [], length-unpack o k (min (perWord k) total) w)) ∙ sym none)
+    let none : later ≡ [] =
+    ap (λ (m : ℕ). unpackWords o k m ws) (sub-eq-zero-of-le {n = total} {m = perWord k} (omega arith))
+    ∙ unpack-nothing o k ws in
+    ap (λ (x : List ℕ). drop (perWord k) (here ++ x)) none
+    ∙ drop-of-length-le (here ++ []) {i = perWord k}
+    (omega (arith, length-append here [], length-unpack o k (min (perWord k) total) w))
+    ∙ sym none)
   where
     here : List ℕ
     here = unpack o k (min (perWord k) total) w
@@ -439,7 +477,8 @@ word-unpacked o k total i [] h = absurd (omega arith)
 word-unpacked o k total zero (w ∷ ws) h =
     let c = min (perWord k) total in
     let front : filled (dummy k) c (unpack o k c w ++ unpackWords o k (total - perWord k) ws) ≡ unpack o k c w =
-    subst (λ (n : ℕ). filled (dummy k) n (unpack o k c w ++ unpackWords o k (total - perWord k) ws) ≡ unpack o k c w) (length-unpack o k c w)
+    subst (λ (n : ℕ). filled (dummy k) n (unpack o k c w ++ unpackWords o k (total - perWord k) ws) ≡ unpack o k c w)
+    (length-unpack o k c w)
     (filled-front (dummy k) (unpack o k c w) (unpackWords o k (total - perWord k) ws)) in
     rw (mul-zero (perWord k), sub-zero total) (ap (pack o k) front ∙ pack-unpack o k c w)
 word-unpacked o k total (suc i) (w ∷ ws) h =
@@ -451,4 +490,6 @@ word-unpacked o k total (suc i) (w ∷ ws) h =
 -- what was unpacked is packed as the same words, the places above their elements zero
 pub pack-unpack-words : (o : BitOrder) (k total : ℕ) (ws : List ℕ) → wordCount k total ≤ length ws
     → packWords o k total (unpackWords o k total ws) ≡ tabulate (wordCount k total) (λ i. getD ws i 0 % 2 ^ (k * countAt k total i))
-pack-unpack-words o k total ws h = tabulate-same (wordCount k total) (wordAt o k total (unpackWords o k total ws)) (λ i. getD ws i 0 % 2 ^ (k * countAt k total i)) (λ i (l : i < wordCount k total). word-unpacked o k total i ws (omega arith))
+pack-unpack-words o k total ws h =
+    tabulate-same (wordCount k total) (wordAt o k total (unpackWords o k total ws)) (λ i. getD ws i 0 % 2 ^ (k * countAt k total i))
+    (λ i (l : i < wordCount k total). word-unpacked o k total i ws (omega arith))

@@ -6,7 +6,8 @@ use mathlib.Core.Bool.{Bool, true, false, cond}
 use mathlib.Core.List.{List, [], _∷_}
 use mathlib.Core.Logic.{_↔_}
 use mathlib.Core.Path.{_≡_, _∙_}
-use native.Mathlib.Nat.{mod-eq-of-lt, mul-le-mul-left, le-trans, div-lt-iff-lt-mul, lt-div-mul-add, mul-comm, mul-assoc, mul-add, mul-left-comm}
+use native.Mathlib.Nat.{mod-eq-of-lt, mul-le-mul-left, le-trans, div-lt-iff-lt-mul, lt-div-mul-add}
+use native.Mathlib.Nat.{mul-comm, mul-assoc, mul-add, mul-left-comm}
 use native.Mathlib.Omega.{arith}
 use Rattle.manual.specs.declared.Ccr.the-variants.{SCKDIV, DBT, PCSSCK, SCKPCS}
 use Rattle.manual.specs.declared.Field.the-variants.{Ccr}
@@ -38,7 +39,8 @@ clock-reads c hs hp hd hv = record {
   sckpcs = read-all (Ccr SCKPCS) (settings c) 0 tt ∙ mod-eq-of-lt hs;
 }
 
-computed : (source clock : ℕ) → 0 < source → 0 < clock → clocked source clock ≡ record { number = 0; configs = configsOf (halfDivider source clock) }
+computed : (source clock : ℕ) → 0 < source → 0 < clock
+    → clocked source clock ≡ record { number = 0; configs = configsOf (halfDivider source clock) }
 computed source clock hs hc = simp (ne-eqb source 0 (λ (e : source ≡ 0). omega arith), ne-eqb clock 0 (λ (e : clock ≡ 0). omega arith))
 
 -- where neither is 0 the answer is Ok
@@ -60,12 +62,15 @@ clocked-fits source clock = by-tests (eqb source 0) (eqb clock 0)
     by-tests false false = (omega arith, omega arith)
 
 -- READ BACK, of the clock that is answered: SCKDIV = 2(h − 1), the others h − 1
-pub clocked-reads : (source clock : ℕ) → 0 < source → 0 < clock → ClockReads (clockWord (clocked source clock .configs)) (configsOf (halfDivider source clock))
+pub clocked-reads : (source clock : ℕ) → 0 < source → 0 < clock
+    → ClockReads (clockWord (clocked source clock .configs)) (configsOf (halfDivider source clock))
 clocked-reads source clock hs hc =
-    rw (computed source clock hs hc) (clock-reads (configsOf (halfDivider source clock)) (omega arith) (omega arith) (omega arith) (omega arith))
+    rw (computed source clock hs hc)
+    (clock-reads (configsOf (halfDivider source clock)) (omega arith) (omega arith) (omega arith) (omega arith))
 
 -- SCK AT MOST THE WANTED CLOCK, exactly when source ≤ 256 × clock
-pub sck-at-most : (source clock : ℕ) → 0 < source → 0 < clock → SckAtMost source (clockWord (clocked source clock .configs)) clock ↔ (source ≤ 256 * clock)
+pub sck-at-most : (source clock : ℕ) → 0 < source → 0 < clock
+    → SckAtMost source (clockWord (clocked source clock .configs)) clock ↔ (source ≤ 256 * clock)
 sck-at-most s c hs hc = (λ h. to (rw (clocked-reads s c hs hc .sckdiv) at h), λ h. rw (clocked-reads s c hs hc .sckdiv) (from h))
   where
     to : s ≤ c * (2 * (halfDivider s c - 1) + 2) → s ≤ 256 * c

@@ -28,7 +28,8 @@ use Rattle.words.specs.declared.transaction.LpspiError.the-variants.{Fra
 use Rattle.words.specs.declared.transaction.Transaction.{Transaction}
 use Rattle.words.specs.declared.transaction.TransactionResult.the-variants.{Ok, Err}
 use Rattle.words.specs.Answer.{Answer, ok, refused, frameSizeNumber}
-use Rattle.words.specs.Command.{frameAccepted, framed, errorNumber, commandAnswer, flagOf, lsbfOf, pcsOf, cphaOf, cpolOf, commanded, setFlag, busWord, Settings, settingsWord}
+use Rattle.words.specs.Command.{frameAccepted, framed, errorNumber, commandAnswer, flagOf, lsbfOf, pcsOf}
+use Rattle.words.specs.Command.{cphaOf, cpolOf, commanded, setFlag, busWord, Settings, settingsWord}
 
 all-three : (a b c : Bool) → (a && b && c) ≡ true → (a ≡ true) × (b ≡ true)
 all-three true true c h = (refl, refl)
@@ -53,10 +54,12 @@ refused-long f h = none (leb 8 f) (leb f 4096) (not (eqb (f % 32) 1)) (lt-leb f 
     none false b c e = refl
 
 -- an answer taken apart, as `let .. else` does: the command and its word, or no command
-pub accepted-word : (f : ℕ) (t : Transaction) → commandAnswer (Ok t) ≡ framed f → (frameAccepted f ≡ true) × (t .0 ≡ setField (Tcr FRAMESZ) (f - 1) 0)
+pub accepted-word : (f : ℕ) (t : Transaction) → commandAnswer (Ok t) ≡ framed f
+    → (frameAccepted f ≡ true) × (t .0 ≡ setField (Tcr FRAMESZ) (f - 1) 0)
 accepted-word f t h = by-test (frameAccepted f) h
   where
-    by-test : (b : Bool) → ok (t .0) ≡ cond b (ok (setField (Tcr FRAMESZ) (f - 1) 0)) (refused frameSizeNumber) → (b ≡ true) × (t .0 ≡ setField (Tcr FRAMESZ) (f - 1) 0)
+    by-test : (b : Bool) → ok (t .0) ≡ cond b (ok (setField (Tcr FRAMESZ) (f - 1) 0)) (refused frameSizeNumber)
+        → (b ≡ true) × (t .0 ≡ setField (Tcr FRAMESZ) (f - 1) 0)
     by-test true e = (refl, ap (λ (a : Answer). a .value) e)
     by-test false e = let z : _≡_ {A = ℕ} 0 1 = ap (λ (a : Answer). a .number) e in absurd (omega arith)
 
@@ -150,7 +153,8 @@ module _ (f : ℕ) (h : frameAccepted f ≡ true) where
     where
       all : List Setting
       all =
-          (Tcr CONTC, flagOf (s .continuing)) ∷ (Tcr CONT, flagOf (s .continuous)) ∷ (Tcr TXMSK, flagOf (s .transmitMask)) ∷ (Tcr RXMSK, flagOf (s .receiveMask)) ∷ (Tcr BYSW, flagOf (s .byteSwap)) ∷ bus (s .order) (s .mode) (s .pcs) f
+          (Tcr CONTC, flagOf (s .continuing)) ∷ (Tcr CONT, flagOf (s .continuous)) ∷ (Tcr TXMSK, flagOf (s .transmitMask))
+          ∷ (Tcr RXMSK, flagOf (s .receiveMask)) ∷ (Tcr BYSW, flagOf (s .byteSwap)) ∷ bus (s .order) (s .mode) (s .pcs) f
 
   module _ (o : BitOrder) (m : Mode) (p : Pcs) where
     -- of a driver's command: what it does not set is 0

@@ -34,7 +34,8 @@ elements-all : (o : BitOrder) (k n w : ℕ) → tabulate n (elementOf o k n w) �
 elements-all o k n w = ap (λ (m : ℕ). tabulate m (elementOf o k n w)) (sym (length-unpack o k n w)) ∙ tabulate-list (unpack o k n w)
 
 -- THE LOOP over the elements of a word ends with the last one, or where the buffer ends
-pub spread-stop : (o : BitOrder) (k n w i m : ℕ) (bs ws : List ℕ) → i ≡ m → m ≡ min n (length bs) → ws ≡ laid (tabulate i (elementOf o k n w)) bs → ws ≡ laid (unpack o k n w) bs
+pub spread-stop : (o : BitOrder) (k n w i m : ℕ) (bs ws : List ℕ) → i ≡ m → m ≡ min n (length bs)
+    → ws ≡ laid (tabulate i (elementOf o k n w)) bs → ws ≡ laid (unpack o k n w) bs
 spread-stop o k n w i m bs ws ei em e =
     store-stop i n (elementOf o k n w) (elementOf o k n w) bs ws (omega arith) (λ (h : i < n). omega arith) (λ j h. refl) e
     ∙ ap (λ (l : List ℕ). laid l bs) (elements-all o k n w)

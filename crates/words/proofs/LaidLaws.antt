@@ -48,11 +48,13 @@ filled-laid d (x ∷ xs) ys [] h = absurd (omega arith)
 filled-laid d (x ∷ xs) ys (b ∷ bs) h = ap (λ (l : List ℕ). x ∷ l) (filled-laid d xs ys bs (omega arith))
 
 -- a table over zeros, of a function that is 0 past the table
-table-at : (n : ℕ) (f : ℕ → ℕ) (ws : List ℕ) (i : ℕ) → n ≤ length ws → ((j : ℕ) → getD ws j 0 ≡ 0) → ((j : ℕ) → n ≤ j → f j ≡ 0) → getD (laid (tabulate n f) ws) i 0 ≡ f i
+table-at : (n : ℕ) (f : ℕ → ℕ) (ws : List ℕ) (i : ℕ) → n ≤ length ws → ((j : ℕ) → getD ws j 0 ≡ 0) → ((j : ℕ) → n ≤ j → f j ≡ 0)
+    → getD (laid (tabulate n f) ws) i 0 ≡ f i
 table-at zero f ws i h z p = z i ∙ sym (p i (omega arith))
 table-at (suc n) f [] i h z p = absurd (omega arith)
 table-at (suc n) f (w ∷ ws) zero h z p = refl
-table-at (suc n) f (w ∷ ws) (suc i) h z p = table-at n (λ j. f (suc j)) ws i (omega arith) (λ j. z (suc j)) (λ j (l : n ≤ j). p (suc j) (omega arith))
+table-at (suc n) f (w ∷ ws) (suc i) h z p =
+    table-at n (λ j. f (suc j)) ws i (omega arith) (λ j. z (suc j)) (λ j (l : n ≤ j). p (suc j) (omega arith))
 
 -- WORD BY WORD
 
@@ -70,19 +72,22 @@ word-past o k total i xs h =
     ap (λ (c : ℕ). pack o k (filled (dummy k) c (drop (perWord k * i) xs))) none
 
 -- the words of xs, laid over words that are all 0
-pub packed-at : (o : BitOrder) (k total i : ℕ) (xs ws : List ℕ) → 0 < perWord k → ((j : ℕ) → getD ws j 0 ≡ 0) → wordCount k total ≤ length ws
+pub packed-at : (o : BitOrder) (k total i : ℕ) (xs ws : List ℕ) → 0 < perWord k → ((j : ℕ) → getD ws j 0 ≡ 0)
+    → wordCount k total ≤ length ws
     → getD (laid (packWords o k total xs) ws) i 0 ≡ wordAt o k total xs i
 packed-at o k total i xs ws h z l =
     table-at (wordCount k total) (wordAt o k total xs) ws i l z (λ j t. word-past o k total j xs (total-ends k total j h t))
 
 -- IN PLACE: word i of a buffer over which received words were unpacked is received word i, and past those the buffer's own
 pub in-place-word : (o : BitOrder) (k total i : ℕ) (rs buf : List ℕ) → length buf ≡ total
-    → wordAt o k total (laid (unpackWords o k total rs) buf) i ≡ cond (ltb i (length rs)) (cutWord k total i (getD rs i 0)) (wordAt o k total buf i)
+    → wordAt o k total (laid (unpackWords o k total rs) buf) i
+    ≡ cond (ltb i (length rs)) (cutWord k total i (getD rs i 0)) (wordAt o k total buf i)
 in-place-word o k total i [] buf h = rw (leb·suc-zero i)
 in-place-word o k total zero (w ∷ rs) buf h =
     let c = min (perWord k) total in
     let front : filled (dummy k) c (laid (unpack o k c w ++ unpackWords o k (total - perWord k) rs) buf) ≡ unpack o k c w =
-    subst (λ (n : ℕ). filled (dummy k) n (laid (unpack o k c w ++ unpackWords o k (total - perWord k) rs) buf) ≡ unpack o k c w) (length-unpack o k c w)
+    subst (λ (n : ℕ). filled (dummy k) n (laid (unpack o k c w ++ unpackWords o k (total - perWord k) rs) buf) ≡ unpack o k c w)
+    (length-unpack o k c w)
     (filled-laid (dummy k) (unpack o k c w) (unpackWords o k (total - perWord k) rs) buf (omega (arith, length-unpack o k c w))) in
     rw (mul-zero (perWord k), sub-zero total, leb·suc-suc 0 (length rs), leb·zero (length rs)) (ap (pack o k) front ∙ pack-unpack o k c w)
 in-place-word o k total (suc i) (w ∷ rs) buf h =

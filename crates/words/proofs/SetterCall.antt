@@ -1,7 +1,6 @@
--- ONE CALL OF A SETTER on a command that stands in a local: `r = &mut command; u = set(r, on);`, where `set` is known by its contract alone.
--- The command is lent for a lifetime that is made for the call, and is taken back when that is over, as the contract says it is at exit (`sets`).
--- Calls in a row are this step in a row.
--- Assumes nothing.
+-- ONE CALL OF A SETTER on a command that stands in a local: `r = &mut command; u = set(r, on);`, where `set` is known by its contract
+-- alone. The command is lent for a lifetime that is made for the call, and is taken back when that is over, as the contract says it is at
+-- exit (`sets`). Calls in a row are this step in a row. Assumes nothing.
 use mathlib.Core.Path.{_≡_, refl, sym, _∙_, ap, subst}
 use Prim.Native.Nat.{ℕ}
 use mathlib.Core.List.{[], _∷_, List}
@@ -15,7 +14,8 @@ use base.Fml.{Fml, GName, Lft, ftrue, fsep, fat, froom, flft, fdead, flent, fres
 use prog.Wp.{Heap, Calls, Loops, Env, Spot, spotOf}
 use ghost.Atoms.{Atoms, sem}
 use contract.Monad.{fact}
-use types.Kit.{Given, Item, Seq, Goal, Soaks, Post, ⋆, ‵, raw, _⊛_, some, later, _$_, _∵_, !, qed, move, drop, use1, use2, use3, split, join, pick, fsplit, fjoin, fpick, fpack, feqL, frame, await, runs, done}
+use types.Kit.{Given, Item, Seq, Goal, Soaks, Post, ⋆, ‵, raw, _⊛_, some, later, _$_, _∵_, !, qed, move, drop, use1}
+use types.Kit.{use2, use3, split, join, pick, fsplit, fjoin, fpick, fpack, feqL, frame, await, runs, done}
 use types.Tokens.{lft-new, lft-end}
 use types.Run.{Finds, look, init, forget, load, addr, and-then, no-more, assigns, land}
 use types.SemTy.{Body as Held}
@@ -105,26 +105,36 @@ module _ (R : RattleType) (L : Settable R) (f : R .Denot → ℕ → ℕ) {M : T
 
     -- what it gives back, but for the update: the token, the result, and the last value, of which the contract says what it is
     abbrev after : Val → Unit {0} → Item 𝓤
-    after v y = ((‵ (flft κ fullShare) ⊛ ‵ ftrue) ⊛ ‵ (unit .own y (v ∷ []))) ⊛ raw (ensured 𝓤 H A (set-ended R) (set-clauses R L f 𝓤 H) (κ, tt) args tt y)
+    after v y =
+        ((‵ (flft κ fullShare) ⊛ ‵ ftrue) ⊛ ‵ (unit .own y (v ∷ [])))
+        ⊛ raw (ensured 𝓤 H A (set-ended R) (set-clauses R L f 𝓤 H) (κ, tt) args tt y)
 
     abbrev last : Lasts (set-ended R) (κ, tt) args → Item 𝓤
     last ws = ‵ (lasts (set-ended R) (κ, tt) args ws) ⊛ raw (fact 𝓤 (ws .0 .0 ≡ f s (h .0)))
 
 module _ {M : Type 1} {𝓤 : URA M} {H : Heap 𝓤} {A : Atoms 𝓤} {K : Type 0} {W : Given 𝓤 H A}
     {C : Calls 𝓤 H} {Λ : Loops 𝓤 H} {E : Env 𝓤 H} {q : Post 𝓤 H} where
-  -- from [the command; room for the reference; room for the unit; the value; Γ] to the same with the command that the setter makes; they stand in the
-  -- locals c, r, u and a
-  pub sets : K → FmC 𝓤 H (W .laws) C → {k : Name} (R : RattleType) (L : Settable R) (f : R .Denot → ℕ → ℕ) → Triple 𝓤 (C k) (Set R L f 𝓤 H A)
+  -- from [the command; room for the reference; room for the unit; the value; Γ] to the same with the command that the setter makes; they
+  -- stand in the locals c, r, u and a
+  pub sets : K → FmC 𝓤 H (W .laws) C → {k : Name} (R : RattleType) (L : Settable R) (f : R .Denot → ℕ → ℕ)
+      → Triple 𝓤 (C k) (Set R L f 𝓤 H A)
       → (h : Transaction) {x : ℕ} → Command x h → (s : R .Denot) → Is R s (L .val s ∷ []) → {c r u a bc br bu ba : ℕ}
-      → spotOf 𝓤 H E c ≡ (T′.mir, bc, 0) → spotOf 𝓤 H E r ≡ (Ref, br, 0) → spotOf 𝓤 H E u ≡ (tyUnit, bu, 0) → spotOf 𝓤 H E a ≡ (L .ty, ba, 0)
+      → spotOf 𝓤 H E c ≡ (T′.mir, bc, 0) → spotOf 𝓤 H E r ≡ (Ref, br, 0) → spotOf 𝓤 H E u ≡ (tyUnit, bu, 0)
+      → spotOf 𝓤 H E a ≡ (L .ty, ba, 0)
       → {rest : Body} {Γ : List (Item 𝓤)} → ((w : Transaction) → Command (f s x) w
-      → Seq K W (‵ (stands bc w) ∷ ‵ (froom Ref br 0) ∷ ‵ (froom tyUnit bu 0) ∷ ‵ (fat fullShare (L .ty) ba 0 (L .val s)) ∷ Γ) (runs C Λ E rest q))
+      → Seq K W (‵ (stands bc w) ∷ ‵ (froom Ref br 0) ∷ ‵ (froom tyUnit bu 0) ∷ ‵ (fat fullShare (L .ty) ba 0 (L .val s)) ∷ Γ)
+      (runs C Λ E rest q))
       → Seq K W (‵ (stands bc h) ∷ ‵ (froom Ref br 0) ∷ ‵ (froom tyUnit bu 0) ∷ ‵ (fat fullShare (L .ty) ba 0 (L .val s)) ∷ Γ)
-      (runs C Λ E (seq (assign (place r []) (addrOf (place c []))) (seq (call k (copy (place r []) ∷ copy (place a []) ∷ []) (place u [])) rest)) q)
+      (runs C Λ E
+      (seq (assign (place r []) (addrOf (place c [])))
+      (seq (call k (copy (place r []) ∷ copy (place a []) ∷ []) (place u [])) rest))
+      q)
   sets t fm R L f known h is s gs {bc = b} ec er eu ea go =
-      assigns t (addr t (found ec)) (found er) (init t 1 refl (tt, tt)) $ lft-new t tt (λ α. move t (1 ∷ []) $ lends t tt (α ∷ []) b h (is .0) (λ γ.
+      assigns t (addr t (found ec)) (found er) (init t 1 refl (tt, tt)) $ lft-new t tt (λ α. move t (1 ∷ []) $
+      lends t tt (α ∷ []) b h (is .0) (λ γ.
       -- [the borrow; the lender's part; the token; r; u; a; …]
-      move t (2 ∷ 0 ∷ []) $ use2 W (raw (Set R L f 𝓤 H A .pre (to-set R L f 𝓤 H A (α ∷ []) b γ h s))) (goes-set R L f 𝓤 H A (α ∷ []) b γ h s W gs) $
+      move t (2 ∷ 0 ∷ []) $
+      use2 W (raw (Set R L f 𝓤 H A .pre (to-set R L f 𝓤 H A (α ∷ []) b γ h s))) (goes-set R L f 𝓤 H A (α ∷ []) b γ h s W gs) $
       calls-at t fm (Set R L f 𝓤 H A) known (to-set R L f 𝓤 H A (α ∷ []) b γ h s)
       (and-then t (load t (found er) (look t 2 refl)) (and-then t (load t (found ea) (look t 4 refl)) (no-more t))) (λ v.
       use1 W (later (some (after R L f 𝓤 H A (α ∷ []) b γ h s v))) (id⊢ 𝓤 _) $ await t tt $ pick t (λ y. split t $ split t $ split t $

@@ -45,7 +45,9 @@ bitOrder = record {
   ty = BitOrder′.mir;
   val = EL.val BitOrder.the-type BitOrder′.the-laws;
   tells = EL.tells BitOrder.the-type BitOrder′.the-laws;
-  typed = λ 𝓤 H A W x is. EL.lawful BitOrder.the-type BitOrder′.the-laws 𝓤 H A W tt .typed x (EL.val BitOrder.the-type BitOrder′.the-laws x ∷ []) is .0;
+  typed =
+      λ 𝓤 H A W x is.
+      EL.lawful BitOrder.the-type BitOrder′.the-laws 𝓤 H A W tt .typed x (EL.val BitOrder.the-type BitOrder′.the-laws x ∷ []) is .0;
   makes = λ 𝓤 H A W. EL.makes BitOrder.the-type BitOrder′.the-plain 𝓤 H A;
   last = λ x. tt;
   silent = λ x w. refl;
@@ -68,7 +70,10 @@ command = record {
   ty = Transaction′.mir;
   val = LL.val Transaction.the-type Transaction′.the-laws;
   tells = LL.tells Transaction.the-type Transaction′.the-laws;
-  typed = λ 𝓤 H A W x is. LL.lawful Transaction.the-type Transaction′.the-laws 𝓤 H A W .typed x (LL.val Transaction.the-type Transaction′.the-laws x ∷ []) is .0;
+  typed =
+      λ 𝓤 H A W x is.
+      LL.lawful Transaction.the-type Transaction′.the-laws 𝓤 H A W .typed x
+      (LL.val Transaction.the-type Transaction′.the-laws x ∷ []) is .0;
   makes = λ 𝓤 H A W. LL.makes Transaction.the-type Transaction′.the-plain 𝓤 H A;
   last = λ x. tt;
   silent = λ x w. refl;

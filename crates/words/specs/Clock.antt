@@ -39,7 +39,8 @@ clocked source clock =
 -- the word of CCR with these four fields
 abbrev pub clockWord : ClockConfigs → ℕ
 clockWord c =
-    setField (Ccr SCKPCS) (c .sckpcs) (setField (Ccr PCSSCK) (c .pcssck) (setField (Ccr DBT) (c .dbt) (setField (Ccr SCKDIV) (c .sckdiv) 0)))
+    setField (Ccr SCKPCS) (c .sckpcs) (setField (Ccr PCSSCK) (c .pcssck)
+    (setField (Ccr DBT) (c .dbt) (setField (Ccr SCKDIV) (c .sckdiv) 0)))
 
 -- by the manual SCK is source / (SCKDIV + 2): it is at most the wanted clock when source is at most clock × (SCKDIV + 2), with no rounding
 abbrev pub SckAtMost : ℕ → ℕ → ℕ → Type 0

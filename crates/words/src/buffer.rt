@@ -31,7 +31,8 @@ fn pack_full_u8(order: BitOrder, xs: &[u8], n: usize, words: &mut [u32])
 // Words `from` to `n`, after those before them.
 fn pack_rest_u8(order: BitOrder, xs: &[u8], total: usize, from: usize, n: usize, words: &mut [u32])
     requires { ⌜ (from ≤ n) × (n ≤ length (now words)) × (n ≤ wordCount 8 total) ⌝ }
-    ensures { λ _. ⌜ ((ws : List ℕ) → now (words .entry) ≡ laid (tabulate from (wordAt order 8 total (now (xs .entry)))) ws
+    ensures { λ _. ⌜ ((ws : List ℕ)
+        → now (words .entry) ≡ laid (tabulate from (wordAt order 8 total (now (xs .entry)))) ws
         → now (words .exit) ≡ laid (tabulate n (wordAt order 8 total (now (xs .entry)))) ws) ⌝ }
 {
     for i in from..n {
@@ -70,7 +71,8 @@ fn pack_rest_u16(
     words: &mut [u32],
 )
     requires { ⌜ (from ≤ n) × (n ≤ length (now words)) × (n ≤ wordCount 16 total) ⌝ }
-    ensures { λ _. ⌜ ((ws : List ℕ) → now (words .entry) ≡ laid (tabulate from (wordAt order 16 total (now (xs .entry)))) ws
+    ensures { λ _. ⌜ ((ws : List ℕ)
+        → now (words .entry) ≡ laid (tabulate from (wordAt order 16 total (now (xs .entry)))) ws
         → now (words .exit) ≡ laid (tabulate n (wordAt order 16 total (now (xs .entry)))) ws) ⌝ }
 {
     for i in from..n {
@@ -99,7 +101,8 @@ pub fn pack_words_u32(order: BitOrder, xs: &[u32], total: usize, words: &mut [u3
 // The first `n` words, none of them short and no element without a place. With 4 for count and room the compiler lays the four at once.
 fn unpack_full_u8(order: BitOrder, words: &[u32], n: usize, out: &mut [u8])
     requires { ⌜ (n ≤ length (now words)) × (4 * n ≤ length (now out)) ⌝ }
-    ensures { λ _. ⌜ now (out .exit) ≡ laid (unpackWords order 8 (4 * n) (take n (now (words .entry)))) (now (out .entry)) ⌝ }
+    ensures { λ _. ⌜ now (out .exit)
+        ≡ laid (unpackWords order 8 (4 * n) (take n (now (words .entry)))) (now (out .entry)) ⌝ }
 {
     for i in 0..n {
         let at = 4 * i;
@@ -123,7 +126,8 @@ pub fn unpack_words_u8(order: BitOrder, words: &[u32], total: usize, out: &mut [
 // The first `n` words, none of them short and no element without a place.
 fn unpack_full_u16(order: BitOrder, words: &[u32], n: usize, out: &mut [u16])
     requires { ⌜ (n ≤ length (now words)) × (2 * n ≤ length (now out)) ⌝ }
-    ensures { λ _. ⌜ now (out .exit) ≡ laid (unpackWords order 16 (2 * n) (take n (now (words .entry)))) (now (out .entry)) ⌝ }
+    ensures { λ _. ⌜ now (out .exit)
+        ≡ laid (unpackWords order 16 (2 * n) (take n (now (words .entry)))) (now (out .entry)) ⌝ }
 {
     for i in 0..n {
         let at = 2 * i;

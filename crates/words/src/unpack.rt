@@ -76,7 +76,8 @@ pub(crate) fn spread_u16(order: BitOrder, n: usize, word: u32, out: &mut [u16])
 
 // `count` bytes of a word over the front of a buffer.
 pub fn unpack_u8(word: u32, order: BitOrder, count: usize, out: &mut [u8]) -> UnpackResult
-    ensures { λ r. ⌜ (unpackNumber r ≡ unpackedNumber 8 count) × (now (out .exit) ≡ unpacked order 8 count word (now (out .entry))) ⌝ }
+    ensures { λ r. ⌜ (unpackNumber r ≡ unpackedNumber 8 count)
+        × (now (out .exit) ≡ unpacked order 8 count word (now (out .entry))) ⌝ }
 {
     if 4 < count {
         return UnpackResult::TooMany;
@@ -87,7 +88,8 @@ pub fn unpack_u8(word: u32, order: BitOrder, count: usize, out: &mut [u8]) -> Un
 
 // `count` halves of a word over the front of a buffer.
 pub fn unpack_u16(word: u32, order: BitOrder, count: usize, out: &mut [u16]) -> UnpackResult
-    ensures { λ r. ⌜ (unpackNumber r ≡ unpackedNumber 16 count) × (now (out .exit) ≡ unpacked order 16 count word (now (out .entry))) ⌝ }
+    ensures { λ r. ⌜ (unpackNumber r ≡ unpackedNumber 16 count)
+        × (now (out .exit) ≡ unpacked order 16 count word (now (out .entry))) ⌝ }
 {
     if 2 < count {
         return UnpackResult::TooMany;
@@ -98,7 +100,8 @@ pub fn unpack_u16(word: u32, order: BitOrder, count: usize, out: &mut [u16]) -> 
 
 // The word itself, whatever the order and, where it is not refused, the count.
 pub fn unpack_u32(word: u32, order: BitOrder, count: usize, out: &mut [u32]) -> UnpackResult
-    ensures { λ r. ⌜ (unpackNumber r ≡ unpackedNumber 32 count) × (now (out .exit) ≡ unpacked order 32 count word (now (out .entry))) ⌝ }
+    ensures { λ r. ⌜ (unpackNumber r ≡ unpackedNumber 32 count)
+        × (now (out .exit) ≡ unpacked order 32 count word (now (out .entry))) ⌝ }
 {
     if 1 < count {
         return UnpackResult::TooMany;

@@ -7,12 +7,6 @@ use borrow.Author.Needs.{needs}
 use Rattle.manual.proofs.get_bits.Statement.{statement}
 use Rattle.manual.proofs.get_bits.Tie as tie
 
-shr-result : tie.Need-shr-result
-shr-result c = search needs
-
-shl-result : tie.Need-shl-result
-shl-result c = search needs
-
 sub-result : tie.Need-sub-result
 sub-result c = mask-pos (c .args .width) (omega arith)
 
@@ -20,4 +14,4 @@ returns : tie.Need-returns
 returns c = low-bits (c .args .word / 2 ^ c .args .position) (c .args .width) (omega arith)
 
 pub get-bits-spec : {M : Type 1} → statement M
-get-bits-spec = tie.close (tie.spec shr-result shl-result sub-result returns)
+get-bits-spec = tie.close (tie.spec (λ c. search needs) (λ c. search needs) sub-result returns)

@@ -14,99 +14,80 @@ use borrow.Author.Needs.{needs}
 use Rattle.c_api.proofs.call.disabled.Statement.{statement}
 use Rattle.c_api.proofs.call.disabled.Tie as tie
 
-set-clock-hz-requires : tie.Need-set-clock-hz-requires
-set-clock-hz-requires c κs = search needs
-
-same-length : tie.Need-same-length
-same-length c = search needs
-
 returns : tie.Need-returns
 returns c = rw (eq-eqb _ _ (c .before .before .before .before .if1 .taken)) (c .before .before .set-clock-hz .ensures)
 
-clock-requires : tie.Need-clock-requires
-clock-requires c κs = search needs
-
-set-clock-configs-requires : tie.Need-set-clock-configs-requires
-set-clock-configs-requires c κs = search needs
-
-same-length-2 : tie.Need-same-length-2
-same-length-2 c = search needs
-
 returns-2 : tie.Need-returns-2
 returns-2 c =
-    let a = c .before .before .before .before .before .before .before .before .before .args in
-    rw (ne-eqb _ _ (c .before .before .before .before .before .before .if1 .left), eq-eqb _ _ (c .before .before .before .before .before .if2 .taken))
-    (c .before .before .set-clock-configs .ensures ∙ ap (λ (p : ClockConfigs). ranCall (callRun (a .driver) (SetClockConfigs p) (a .budget) (a .script .now) (a .log .now))) (c .before .before .before .before .clock .ensures))
-
-sample-point-requires : tie.Need-sample-point-requires
-sample-point-requires c κs = search needs
-
-set-sample-point-requires : tie.Need-set-sample-point-requires
-set-sample-point-requires c κs = search needs
-
-same-length-3 : tie.Need-same-length-3
-same-length-3 c = search needs
+    let c₄ = c .before .before .before .before in
+    let a = c₄ .before .before .before .before .before .args in
+    rw (ne-eqb _ _ (c₄ .before .before .if1 .left), eq-eqb _ _ (c₄ .before .if2 .taken))
+    (c .before .before .set-clock-configs .ensures
+    ∙ ap (λ (p : ClockConfigs). ranCall (callRun (a .driver) (SetClockConfigs p) (a .budget) (a .script .now) (a .log .now)))
+    (c₄ .clock .ensures))
 
 returns-3 : tie.Need-returns-3
 returns-3 c =
-    let a = c .before .before .before .before .before .before .before .before .before .before .args in
-    rw (ne-eqb _ _ (c .before .before .before .before .before .before .before .if1 .left), ne-eqb _ _ (c .before .before .before .before .before .before .if2 .left), eq-eqb _ _ (c .before .before .before .before .before .if3 .taken))
-    (c .before .before .set-sample-point .ensures ∙ ap (λ (p : SamplePoint). ranCall (callRun (a .driver) (SetSamplePoint p) (a .budget) (a .script .now) (a .log .now))) (c .before .before .before .before .sample-point .ensures))
-
-is-odd-requires : tie.Need-is-odd-requires
-is-odd-requires c κs = search needs
-
-set-peripheral-enable-requires : tie.Need-set-peripheral-enable-requires
-set-peripheral-enable-requires c κs = search needs
-
-same-length-4 : tie.Need-same-length-4
-same-length-4 c = search needs
+    let c₄ = c .before .before .before .before in
+    let a = c₄ .before .before .before .before .before .before .args in
+    rw (ne-eqb _ _ (c₄ .before .before .before .if1 .left), ne-eqb _ _ (c₄ .before .before .if2 .left), eq-eqb _ _ (c₄ .before .if3 .taken))
+    (c .before .before .set-sample-point .ensures
+    ∙ ap (λ (p : SamplePoint). ranCall (callRun (a .driver) (SetSamplePoint p) (a .budget) (a .script .now) (a .log .now)))
+    (c₄ .sample-point .ensures))
 
 returns-4 : tie.Need-returns-4
 returns-4 c =
-    let a = c .before .before .before .before .before .before .before .before .before .before .before .args in
-    rw (ne-eqb _ _ (c .before .before .before .before .before .before .before .before .if1 .left), ne-eqb _ _ (c .before .before .before .before .before .before .before .if2 .left), ne-eqb _ _ (c .before .before .before .before .before .before .if3 .left), eq-eqb _ _ (c .before .before .before .before .before .if4 .taken))
-    (c .before .before .set-peripheral-enable .ensures ∙ ap (λ (p : Bool). ranCall (callRun (a .driver) (SetPeripheralEnable p) (a .budget) (a .script .now) (a .log .now))) (c .before .before .before .before .is-odd .ensures))
-
-pcs-of-requires : tie.Need-pcs-of-requires
-pcs-of-requires c κs = search needs
-
-polarity-requires : tie.Need-polarity-requires
-polarity-requires c κs = search needs
-
-set-chip-select-polarity-requires : tie.Need-set-chip-select-polarity-requires
-set-chip-select-polarity-requires c κs = search needs
-
-same-length-5 : tie.Need-same-length-5
-same-length-5 c = search needs
+    let c₄ = c .before .before .before .before in
+    let c₈ = c₄ .before .before .before .before in
+    let a = c₈ .before .before .before .args in
+    rw (
+      ne-eqb _ _ (c₈ .if1 .left),
+      ne-eqb _ _ (c₄ .before .before .before .if2 .left),
+      ne-eqb _ _ (c₄ .before .before .if3 .left),
+      eq-eqb _ _ (c₄ .before .if4 .taken),
+    )
+    (c .before .before .set-peripheral-enable .ensures
+    ∙ ap (λ (p : Bool). ranCall (callRun (a .driver) (SetPeripheralEnable p) (a .budget) (a .script .now) (a .log .now)))
+    (c₄ .is-odd .ensures))
 
 returns-5 : tie.Need-returns-5
 returns-5 c =
-    let a = c .before .before .before .before .before .before .before .before .before .before .before .before .args in
-    rw (ne-eqb _ _ (c .before .before .before .before .before .before .before .before .before .if1 .left), ne-eqb _ _ (c .before .before .before .before .before .before .before .before .if2 .left), ne-eqb _ _ (c .before .before .before .before .before .before .before .if3 .left), ne-eqb _ _ (c .before .before .before .before .before .before .if4 .left))
-    (c .before .before .set-chip-select-polarity .ensures ∙ ap₂ (λ (s : Pcs) (p : PcsPolarity). ranCall (callRun (a .driver) (SetChipSelectPolarity s p) (a .budget) (a .script .now) (a .log .now))) (c .before .before .before .before .before .pcs-of .ensures) (c .before .before .before .before .polarity .ensures))
+    let c₄ = c .before .before .before .before in
+    let c₈ = c₄ .before .before .before .before in
+    let a = c₈ .before .before .before .before .args in
+    rw (
+      ne-eqb _ _ (c₈ .before .if1 .left),
+      ne-eqb _ _ (c₈ .if2 .left),
+      ne-eqb _ _ (c₄ .before .before .before .if3 .left),
+      ne-eqb _ _ (c₄ .before .before .if4 .left),
+    )
+    (c .before .before .set-chip-select-polarity .ensures
+    ∙ ap₂
+    (λ (s : Pcs) (p : PcsPolarity).
+    ranCall (callRun (a .driver) (SetChipSelectPolarity s p) (a .budget) (a .script .now) (a .log .now)))
+    (c₄ .before .pcs-of .ensures) (c₄ .polarity .ensures))
 
 pub disabled-spec : {M : Type 1} → statement M
 disabled-spec =
     tie.close
     (tie.spec
-    set-clock-hz-requires
-    same-length
+    (λ c κs. search needs)
+    (λ c. search needs)
     returns
-    clock-requires
-    set-clock-configs-requires
-    same-length-2
+    (λ c κs. search needs)
+    (λ c κs. search needs)
+    (λ c. search needs)
     returns-2
-    sample-point-requires
-    set-sample-point-requires
-    same-length-3
+    (λ c κs. search needs)
+    (λ c κs. search needs)
+    (λ c. search needs)
     returns-3
-    is-odd-requires
-    set-peripheral-enable-requires
-    same-length-4
+    (λ c κs. search needs)
+    (λ c κs. search needs)
+    (λ c. search needs)
     returns-4
-    pcs-of-requires
-    polarity-requires
-    set-chip-select-polarity-requires
-    same-length-5
+    (λ c κs. search needs)
+    (λ c κs. search needs)
+    (λ c κs. search needs)
+    (λ c. search needs)
     returns-5)

@@ -21,14 +21,25 @@ returns c =
     let first = c .before .before .before .before .before .before in
     let a = first .before .before .before .args in
     rw (eq-eqb _ _ (first .if1 .taken))
-    (got (c .of-level .ensures) (c .before .before .before .watermark .ensures ∙ ap (λ (d : Direction). valued (watermarkIn d) 0 (callRun (a .driver) GetWatermark (a .budget) (a .script .now) (a .log .now))) (c .before .before .before .before .before .direction .ensures)))
+    (got (c .of-level .ensures)
+    (c .before .before .before .watermark .ensures
+    ∙ ap
+    (λ (d : Direction).
+    valued (watermarkIn d) 0 (callRun (a .driver) GetWatermark (a .budget) (a .script .now) (a .log .now)))
+    (c .before .before .before .before .before .direction .ensures)))
 
 returns-2 : tie.Need-returns-2
 returns-2 c =
     let second = c .before .before .before .before .before .before in
     let a = second .before .before .before .before .args in
     rw (ne-eqb _ _ (second .before .if1 .left), eq-eqb _ _ (second .if2 .taken))
-    (got (c .of-level2 .ensures) (c .before .before .before .set-watermark .ensures ∙ ap (λ (d : Direction). valued (levelIn d (a .b % 256)) 0 (callRun (a .driver) (SetWatermark d (a .b % 256)) (a .budget) (a .script .now) (a .log .now))) (c .before .before .before .before .before .direction2 .ensures)))
+    (got (c .of-level2 .ensures)
+    (c .before .before .before .set-watermark .ensures
+    ∙ ap
+    (λ (d : Direction).
+    valued (levelIn d (a .b % 256)) 0
+    (callRun (a .driver) (SetWatermark d (a .b % 256)) (a .budget) (a .script .now) (a .log .now)))
+    (c .before .before .before .before .before .direction2 .ensures)))
 
 returns-3 : tie.Need-returns-3
 returns-3 c =
@@ -39,19 +50,36 @@ returns-3 c =
 returns-4 : tie.Need-returns-4
 returns-4 c =
     let fourth = c .before .before .before .before .before in
-    rw (ne-eqb _ _ (fourth .before .before .before .if1 .left), ne-eqb _ _ (fourth .before .before .if2 .left), ne-eqb _ _ (fourth .before .if3 .left), eq-eqb _ _ (fourth .if4 .taken))
+    rw (
+      ne-eqb _ _ (fourth .before .before .before .if1 .left),
+      ne-eqb _ _ (fourth .before .before .if2 .left),
+      ne-eqb _ _ (fourth .before .if3 .left),
+      eq-eqb _ _ (fourth .if4 .taken),
+    )
     (got-number flagOf (c .of-enabled .ensures) (c .before .before .before .is-enabled .ensures))
 
 returns-5 : tie.Need-returns-5
 returns-5 c =
     let fifth = c .before .before .before .before .before in
-    rw (ne-eqb _ _ (fifth .before .before .before .before .if1 .left), ne-eqb _ _ (fifth .before .before .before .if2 .left), ne-eqb _ _ (fifth .before .before .if3 .left), ne-eqb _ _ (fifth .before .if4 .left), eq-eqb _ _ (fifth .if5 .taken))
+    rw (
+      ne-eqb _ _ (fifth .before .before .before .before .if1 .left),
+      ne-eqb _ _ (fifth .before .before .before .if2 .left),
+      ne-eqb _ _ (fifth .before .before .if3 .left),
+      ne-eqb _ _ (fifth .before .if4 .left),
+      eq-eqb _ _ (fifth .if5 .taken),
+    )
     (got-number fifoNumber (c .of-fifo .ensures) (c .before .before .before .fifo-status .ensures))
 
 returns-6 : tie.Need-returns-6
 returns-6 c =
     let last = c .before .before .before .before .before in
-    rw (ne-eqb _ _ (last .before .before .before .before .if1 .left), ne-eqb _ _ (last .before .before .before .if2 .left), ne-eqb _ _ (last .before .before .if3 .left), ne-eqb _ _ (last .before .if4 .left), ne-eqb _ _ (last .if5 .left))
+    rw (
+      ne-eqb _ _ (last .before .before .before .before .if1 .left),
+      ne-eqb _ _ (last .before .before .before .if2 .left),
+      ne-eqb _ _ (last .before .before .if3 .left),
+      ne-eqb _ _ (last .before .if4 .left),
+      ne-eqb _ _ (last .if5 .left),
+    )
     (got-number wordsNumber (c .of-data .ensures) (c .before .before .before .read-data .ensures))
 
 pub get-spec : {M : Type 1} → statement M

@@ -9,26 +9,17 @@ use borrow.Author.Needs.{needs}
 use Rattle.c_api.proofs.call.lpspi_disabled.Statement.{statement}
 use Rattle.c_api.proofs.call.lpspi_disabled.Tie as tie
 
-driver-of-requires : tie.Need-driver-of-requires
-driver-of-requires c κs = search needs
-
-disabled-requires : tie.Need-disabled-requires
-disabled-requires c κs = search needs
-
-hand-back-requires : tie.Need-hand-back-requires
-hand-back-requires c κs = search needs
-
-same-length : tie.Need-same-length
-same-length c = search needs
-
 returns : tie.Need-returns
 returns c =
-    let a = c .before .before .before .before .before .before .before .before .before .before .before .before .args in
-    let x = c .before .before .before .before .before .before .disabled in
+    let c₆ = c .before .before .before .before .before .before in
+    let a = c₆ .before .before .before .before .before .before .args in
+    let x = c₆ .disabled in
     host-call (x .result) (a .driver .now) (c .hand-back .ensures) (x .ensures)
-    ∙ ap (λ (d : Lpspi). ofCall (a .driver .now) (disabledBy d (a .budget) (a .script .now) (a .log .now) (a .kind) (a .a) (a .b))) (c .before .before .before .before .before .before .before .before .driver-of .ensures)
+    ∙ ap
+    (λ (d : Lpspi). ofCall (a .driver .now) (disabledBy d (a .budget) (a .script .now) (a .log .now) (a .kind) (a .a) (a .b)))
+    (c₆ .before .before .driver-of .ensures)
 
 pub lpspi-disabled-spec : {M : Type 1} → statement M
 lpspi-disabled-spec =
     tie.close
-    (tie.spec driver-of-requires disabled-requires hand-back-requires same-length returns)
+    (tie.spec (λ c κs. search needs) (λ c κs. search needs) (λ c κs. search needs) (λ c. search needs) returns)

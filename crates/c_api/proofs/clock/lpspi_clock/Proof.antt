@@ -7,30 +7,20 @@ use borrow.Author.Needs.{needs}
 use Rattle.c_api.proofs.clock.lpspi_clock.Statement.{statement}
 use Rattle.c_api.proofs.clock.lpspi_clock.Tie as tie
 
-from-hz-requires : tie.Need-from-hz-requires
-from-hz-requires c κs = search needs
-
-enum-known-configs : tie.Need-enum-known-configs
-enum-known-configs c = search needs
-
-enum-told : tie.Need-enum-told
-enum-told c = search needs
-
 returns : tie.Need-returns
 returns c =
     let found = c .before .before .before .args .word .now in
-    ap (λ (x : ClockAnswer). kept (answered (x .number) (clockWord (x .configs))) found) (ap clockAnswer (sym (c .enum-told .given .1)) ∙ c .before .before .from-hz .ensures)
-
-as-raw-requires : tie.Need-as-raw-requires
-as-raw-requires c κs = search needs
+    ap (λ (x : ClockAnswer). kept (answered (x .number) (clockWord (x .configs))) found)
+    (ap clockAnswer (sym (c .enum-told .given .1)) ∙ c .before .before .from-hz .ensures)
 
 returns-2 : tie.Need-returns-2
 returns-2 c =
     let found = c .before .before .before .before .before .args .word .now in
     ap (answered 0) (c .as-raw .ensures)
-    ∙ ap (λ (x : ClockAnswer). kept (answered (x .number) (clockWord (x .configs))) found) (ap clockAnswer (sym (c .before .before .configs .given .1)) ∙ c .before .before .before .before .from-hz .ensures)
+    ∙ ap (λ (x : ClockAnswer). kept (answered (x .number) (clockWord (x .configs))) found)
+    (ap clockAnswer (sym (c .before .before .configs .given .1)) ∙ c .before .before .before .before .from-hz .ensures)
 
 pub lpspi-clock-spec : {M : Type 1} → statement M
 lpspi-clock-spec =
     tie.close
-    (tie.spec from-hz-requires enum-known-configs enum-told returns as-raw-requires returns-2)
+    (tie.spec (λ c κs. search needs) (λ c. search needs) (λ c. search needs) returns (λ c κs. search needs) returns-2)

@@ -10,35 +10,13 @@ use borrow.Author.Needs.{needs}
 use Rattle.c_api.proofs.command.lpspi_command.Statement.{statement}
 use Rattle.c_api.proofs.command.lpspi_command.Tie as tie
 
-command-of-requires : tie.Need-command-of-requires
-command-of-requires c κs = search needs
-
-enum-known-command : tie.Need-enum-known-command
-enum-known-command c = search needs
-
-enum-told : tie.Need-enum-told
-enum-told c = search needs
-
 returns : tie.Need-returns
 returns c =
     let f = c .before .before .before .args .frame-size in
-    let no = refused-size f (c .enum-told .given .0 .0) (ap commandAnswer (sym (c .enum-told .given .1)) ∙ c .before .before .command-of .ensures) in
+    let no =
+    refused-size f (c .enum-told .given .0 .0)
+    (ap commandAnswer (sym (c .enum-told .given .1)) ∙ c .before .before .command-of .ensures) in
     rw no
-
-order-of-requires : tie.Need-order-of-requires
-order-of-requires c κs = search needs
-
-mode-of-requires : tie.Need-mode-of-requires
-mode-of-requires c κs = search needs
-
-pcs-of-requires : tie.Need-pcs-of-requires
-pcs-of-requires c κs = search needs
-
-with-settings-requires : tie.Need-with-settings-requires
-with-settings-requires c κs = search needs
-
-as-raw-requires : tie.Need-as-raw-requires
-as-raw-requires c κs = search needs
 
 returns-2 : tie.Need-returns-2
 returns-2 c =
@@ -55,13 +33,13 @@ pub lpspi-command-spec : {M : Type 1} → statement M
 lpspi-command-spec =
     tie.close
     (tie.spec
-    command-of-requires
-    enum-known-command
-    enum-told
+    (λ c κs. search needs)
+    (λ c. search needs)
+    (λ c. search needs)
     returns
-    order-of-requires
-    mode-of-requires
-    pcs-of-requires
-    with-settings-requires
-    as-raw-requires
+    (λ c κs. search needs)
+    (λ c κs. search needs)
+    (λ c κs. search needs)
+    (λ c κs. search needs)
+    (λ c κs. search needs)
     returns-2)

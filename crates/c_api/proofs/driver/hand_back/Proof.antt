@@ -8,14 +8,10 @@ use borrow.Author.Needs.{needs}
 use Rattle.c_api.proofs.driver.hand_back.Statement.{statement}
 use Rattle.c_api.proofs.driver.hand_back.Tie as tie
 
-driver-left-requires : tie.Need-driver-left-requires
-driver-left-requires c κs = search needs
-
-number-requires : tie.Need-number-requires
-number-requires c κs = search needs
-
 returns : tie.Need-returns
-returns c = let r = c .before .before .before .args .r in ap₂ (λ (n w : ℕ). hostLeft n w (r .accesses) (r .answers) [] []) (c .number .ensures) (c .before .driver-left .ensures)
+returns c =
+    let r = c .before .before .before .args .r in
+    ap₂ (λ (n w : ℕ). hostLeft n w (r .accesses) (r .answers) [] []) (c .number .ensures) (c .before .driver-left .ensures)
 
 pub hand-back-spec : {M : Type 1} → statement M
-hand-back-spec = tie.close (tie.spec driver-left-requires number-requires returns)
+hand-back-spec = tie.close (tie.spec (λ c κs. search needs) (λ c κs. search needs) returns)

@@ -9,31 +9,25 @@ use borrow.Author.Needs.{needs}
 use Rattle.c_api.proofs.pack.lpspi_pack_u8.Statement.{statement}
 use Rattle.c_api.proofs.pack.lpspi_pack_u8.Tie as tie
 
-order-of-requires : tie.Need-order-of-requires
-order-of-requires c κs = search needs
-
-pack-u8-requires : tie.Need-pack-u8-requires
-pack-u8-requires c κs = search needs
-
-enum-known-w : tie.Need-enum-known-w
-enum-known-w c = search needs
-
-enum-told : tie.Need-enum-told
-enum-told c = search needs
-
 returns : tie.Need-returns
 returns c =
     let p = c .before .before in
     let a = p .before .before .before .args in
-    ap (λ (x : Answer). kept x (a .word .now)) (ap packAnswer (sym (c .enum-told .given .1)) ∙ p .pack-u8 .ensures ∙ ap (λ (o : BitOrder). packed o 8 (a .bytes .now)) (p .before .order-of .ensures))
+    ap (λ (x : Answer). kept x (a .word .now))
+    (ap packAnswer (sym (c .enum-told .given .1))
+    ∙ p .pack-u8 .ensures
+    ∙ ap (λ (o : BitOrder). packed o 8 (a .bytes .now)) (p .before .order-of .ensures))
 
 returns-2 : tie.Need-returns-2
 returns-2 c =
     let p = c .before .before .before in
     let a = p .before .before .before .args in
-    ap (λ (x : Answer). kept x (a .word .now)) (ap packAnswer (sym (c .before .w .given .1)) ∙ p .pack-u8 .ensures ∙ ap (λ (o : BitOrder). packed o 8 (a .bytes .now)) (p .before .order-of .ensures))
+    ap (λ (x : Answer). kept x (a .word .now))
+    (ap packAnswer (sym (c .before .w .given .1))
+    ∙ p .pack-u8 .ensures
+    ∙ ap (λ (o : BitOrder). packed o 8 (a .bytes .now)) (p .before .order-of .ensures))
 
 pub lpspi-pack-u8-spec : {M : Type 1} → statement M
 lpspi-pack-u8-spec =
     tie.close
-    (tie.spec order-of-requires pack-u8-requires enum-known-w enum-told returns returns-2)
+    (tie.spec (λ c κs. search needs) (λ c κs. search needs) (λ c. search needs) (λ c. search needs) returns returns-2)

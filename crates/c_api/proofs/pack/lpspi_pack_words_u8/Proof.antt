@@ -8,21 +8,13 @@ use borrow.Author.Needs.{needs}
 use Rattle.c_api.proofs.pack.lpspi_pack_words_u8.Statement.{statement}
 use Rattle.c_api.proofs.pack.lpspi_pack_words_u8.Tie as tie
 
-order-of-requires : tie.Need-order-of-requires
-order-of-requires c κs = search needs
-
-pack-words-u8-requires : tie.Need-pack-words-u8-requires
-pack-words-u8-requires c κs = search needs
-
-same-length : tie.Need-same-length
-same-length c = search needs
-
 returns : tie.Need-returns
 returns c =
     let a = c .before .before .before .before .before .before .before .args in
     c .before .before .pack-words-u8 .ensures
-    ∙ ap (λ (o : BitOrder). laid (packWords o 8 (a .total) (a .bytes .now)) (a .words .now)) (c .before .before .before .before .order-of .ensures)
+    ∙ ap (λ (o : BitOrder). laid (packWords o 8 (a .total) (a .bytes .now)) (a .words .now))
+    (c .before .before .before .before .order-of .ensures)
 
 pub lpspi-pack-words-u8-spec : {M : Type 1} → statement M
 lpspi-pack-words-u8-spec =
-    tie.close (tie.spec order-of-requires pack-words-u8-requires same-length returns)
+    tie.close (tie.spec (λ c κs. search needs) (λ c κs. search needs) (λ c. search needs) returns)

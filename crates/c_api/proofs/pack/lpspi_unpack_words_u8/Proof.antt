@@ -8,21 +8,13 @@ use borrow.Author.Needs.{needs}
 use Rattle.c_api.proofs.pack.lpspi_unpack_words_u8.Statement.{statement}
 use Rattle.c_api.proofs.pack.lpspi_unpack_words_u8.Tie as tie
 
-order-of-requires : tie.Need-order-of-requires
-order-of-requires c κs = search needs
-
-unpack-words-u8-requires : tie.Need-unpack-words-u8-requires
-unpack-words-u8-requires c κs = search needs
-
-same-length : tie.Need-same-length
-same-length c = search needs
-
 returns : tie.Need-returns
 returns c =
     let a = c .before .before .before .before .before .before .before .args in
     c .before .before .unpack-words-u8 .ensures
-    ∙ ap (λ (o : BitOrder). laid (unpackWords o 8 (a .total) (a .words .now)) (a .bytes .now)) (c .before .before .before .before .order-of .ensures)
+    ∙ ap (λ (o : BitOrder). laid (unpackWords o 8 (a .total) (a .words .now)) (a .bytes .now))
+    (c .before .before .before .before .order-of .ensures)
 
 pub lpspi-unpack-words-u8-spec : {M : Type 1} → statement M
 lpspi-unpack-words-u8-spec =
-    tie.close (tie.spec order-of-requires unpack-words-u8-requires same-length returns)
+    tie.close (tie.spec (λ c κs. search needs) (λ c κs. search needs) (λ c. search needs) returns)

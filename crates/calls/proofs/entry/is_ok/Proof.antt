@@ -4,11 +4,8 @@ use borrow.Author.Needs.{needs}
 use Rattle.calls.proofs.entry.is_ok.Statement.{statement}
 use Rattle.calls.proofs.entry.is_ok.Tie as tie
 
-number-requires : tie.Need-number-requires
-number-requires c κs = search needs
-
 returns : tie.Need-returns
 returns c = simp (c .number .ensures)
 
 pub is-ok-spec : {M : Type 1} → statement M
-is-ok-spec = tie.close (tie.spec number-requires returns)
+is-ok-spec = tie.close (tie.spec (λ c κs. search needs) returns)

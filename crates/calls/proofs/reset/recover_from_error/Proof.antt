@@ -5,18 +5,9 @@ use borrow.Author.Needs.{needs}
 use Rattle.calls.proofs.reset.recover_from_error.Statement.{statement}
 use Rattle.calls.proofs.reset.recover_from_error.Tie as tie
 
-run-call-requires : tie.Need-run-call-requires
-run-call-requires c κs = search needs
-
-result-requires : tie.Need-result-requires
-result-requires c κs = search needs
-
-same-length : tie.Need-same-length
-same-length c = search needs
-
 returns : tie.Need-returns
 returns c = ran-call (c .before .before .before .run-call .ensures) (c .result .ensures)
 
 pub recover-from-error-spec : {M : Type 1} → statement M
 recover-from-error-spec =
-    tie.close (tie.spec run-call-requires result-requires same-length returns)
+    tie.close (tie.spec (λ c κs. search needs) (λ c κs. search needs) (λ c. search needs) returns)

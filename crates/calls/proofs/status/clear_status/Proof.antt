@@ -5,17 +5,8 @@ use borrow.Author.Needs.{needs}
 use Rattle.calls.proofs.status.clear_status.Statement.{statement}
 use Rattle.calls.proofs.status.clear_status.Tie as tie
 
-run-call-requires : tie.Need-run-call-requires
-run-call-requires c κs = search needs
-
-result-requires : tie.Need-result-requires
-result-requires c κs = search needs
-
-same-length : tie.Need-same-length
-same-length c = search needs
-
 returns : tie.Need-returns
 returns c = ran-call (c .before .before .before .run-call .ensures) (c .result .ensures)
 
 pub clear-status-spec : {M : Type 1} → statement M
-clear-status-spec = tie.close (tie.spec run-call-requires result-requires same-length returns)
+clear-status-spec = tie.close (tie.spec (λ c κs. search needs) (λ c κs. search needs) (λ c. search needs) returns)

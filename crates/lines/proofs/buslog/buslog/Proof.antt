@@ -1,100 +1,92 @@
 -- `buslog` meets its contract: too long, malformed, or the task's listing.
 -- Assumes nothing.
-use mathlib.Core.Path.{sym}
+use mathlib.Core.Path.{_≡_, sym}
 use borrow.Author.Tests.{le-leb, lt-leb}
 use lib.ListN.{length}
 use lib.Seq.{length-take-le}
 use Rattle.lines.specs.Grammar.{task}
+use Rattle.lines.specs.Parse.{Answers}
+use Rattle.lines.specs.declared.parse.Parsed.{Parsed}
 use Rattle.lines.specs.declared.parse.Parsed.the-variants.{Request, Malformed}
 use Rattle.lines.proofs.TaskLaws.{as-parsed, task-sound}
 use borrow.Author.Needs.{needs}
 use Rattle.lines.proofs.buslog.buslog.Statement.{statement}
 use Rattle.lines.proofs.buslog.buslog.Tie as tie
 
-bad-requires : tie.Need-bad-requires
-bad-requires c κs = search needs
+-- AFTER THE TEXT WAS READ: what the answer says
+module _ (c : tie.After-read-task) where
+  answers : (q : Parsed) → c .read-task .result ≡ q
+      → Answers (task (c .before .before .before .before .before .args .input .now))
+      (c .read-task .last .1 .0) (c .read-task .last .1 .1 .0) q
+  answers q e =
+      let r = c .read-task in
+      as-parsed (task (c .before .before .before .before .before .args .input .now))
+      (r .last .1 .0) (r .last .1 .1 .0) (r .result) q e (r .ensures)
 
 returns : tie.Need-returns
-returns c = rw (lt-leb (length (c .before .before .before .before .args .input .now)) 131072 (c .before .before .if1 .taken)) (c .bad .ensures)
-
-slice-aggregate-read-task : tie.Need-slice-aggregate-read-task
-slice-aggregate-read-task c = search needs
-
-slice-aggregate-read-task-2 : tie.Need-slice-aggregate-read-task-2
-slice-aggregate-read-task-2 c = search needs
-
-read-task-requires : tie.Need-read-task-requires
-read-task-requires c κs = search needs
-
-enum-told : tie.Need-enum-told
-enum-told c = search needs
-
-bad-requires-2 : tie.Need-bad-requires-2
-bad-requires-2 c κs = search needs
-
-enum-known-asked : tie.Need-enum-known-asked
-enum-known-asked c = search needs
+returns c =
+    rw (lt-leb (length (c .before .before .before .before .args .input .now)) 131072 (c .before .before .if1 .taken)) (c .bad .ensures)
 
 array-share-prefix-written : tie.Need-array-share-prefix-written
 array-share-prefix-written c =
-    let r = c .before .before .before .before .before .before .read-task in
     let q = c .before .before .asked .given in
-    let asked = as-parsed (task (c .before .before .before .before .before .before .before .before .before .before .before .args .input .now)) (r .last .1 .0) (r .last .1 .1 .0) (r .result) (Request (q .0 .0)) (q .1) (r .ensures) in
-    asked .0
+    let asked = answers (c .before .before .before .before .before .before) (Request (q .0 .0)) (q .1) in
+    asked .writes
 
 slice-aggregate-list : tie.Need-slice-aggregate-list
 slice-aggregate-list c =
-    let r = c .before .before .before .before .before .before .before .read-task in
     let q = c .before .before .before .asked .given in
-    let asked = as-parsed (task (c .before .before .before .before .before .before .before .before .before .before .before .before .args .input .now)) (r .last .1 .0) (r .last .1 .1 .0) (r .result) (Request (q .0 .0)) (q .1) (r .ensures) in
-    sym (length-take-le _ _ (asked .0))
+    let asked = answers (c .before .before .before .before .before .before .before) (Request (q .0 .0)) (q .1) in
+    sym (length-take-le _ _ (asked .writes))
 
 array-share-prefix-answers : tie.Need-array-share-prefix-answers
 array-share-prefix-answers c =
-    let r = c .before .before .before .before .before .before .before .read-task in
     let q = c .before .before .before .asked .given in
-    let asked = as-parsed (task (c .before .before .before .before .before .before .before .before .before .before .before .before .args .input .now)) (r .last .1 .0) (r .last .1 .1 .0) (r .result) (Request (q .0 .0)) (q .1) (r .ensures) in
-    asked .2
+    let asked = answers (c .before .before .before .before .before .before .before) (Request (q .0 .0)) (q .1) in
+    asked .answers
 
 slice-aggregate-list-2 : tie.Need-slice-aggregate-list-2
 slice-aggregate-list-2 c =
-    let r = c .before .before .before .before .before .before .before .before .read-task in
     let q = c .before .before .before .before .asked .given in
-    let asked = as-parsed (task (c .before .before .before .before .before .before .before .before .before .before .before .before .before .args .input .now)) (r .last .1 .0) (r .last .1 .1 .0) (r .result) (Request (q .0 .0)) (q .1) (r .ensures) in
-    sym (length-take-le _ _ (asked .2))
+    let asked = answers (c .before .before .before .before .before .before .before .before) (Request (q .0 .0)) (q .1) in
+    sym (length-take-le _ _ (asked .answers))
 
 list-requires : tie.Need-list-requires
 list-requires c κs =
-    let r = c .before .before .before .before .before .before .before .before .before .read-task in
-    let q = c .before .before .before .before .before .asked .given in
-    let asked = as-parsed (task (c .before .before .before .before .before .before .before .before .before .before .before .before .before .before .args .input .now)) (r .last .1 .0) (r .last .1 .1 .0) (r .result) (Request (q .0 .0)) (q .1) (r .ensures) in
-    (search needs, task-sound (c .before .before .before .before .before .before .before .before .before .before .before .before .before .before .args .input .now) _ (asked .3))
+    let c₅ = c .before .before .before .before .before in
+    let c₉ = c₅ .before .before .before .before in
+    let q = c₅ .asked .given in
+    let asked = answers c₉ (Request (q .0 .0)) (q .1) in
+    (search needs, task-sound (c₉ .before .before .before .before .before .args .input .now) _ (asked .asks))
 
 returns-2 : tie.Need-returns-2
 returns-2 c =
-    let r = c .before .before .before .before .before .before .read-task in
-    let none = as-parsed (task (c .before .before .before .before .before .before .before .before .before .before .before .args .input .now)) (r .last .1 .0) (r .last .1 .1 .0) (r .result) Malformed (c .before .before .enum-told .given .1) (r .ensures) in
-    rw (le-leb (length (c .before .before .before .before .before .before .before .before .before .before .before .args .input .now)) 131072 (c .before .before .before .before .before .before .before .before .before .if1 .left), none) (c .bad2 .ensures)
+    let c₆ = c .before .before .before .before .before .before in
+    let none = answers c₆ Malformed (c .before .before .enum-told .given .1) in
+    let short = le-leb (length (c₆ .before .before .before .before .before .args .input .now)) 131072 (c₆ .before .before .before .if1 .left) in
+    rw (short, none) (c .bad2 .ensures)
 
 returns-3 : tie.Need-returns-3
 returns-3 c =
-    let r = c .before .before .before .before .before .before .before .before .before .before .read-task in
-    let q = c .before .before .before .before .before .before .asked .given in
-    let asked = as-parsed (task (c .before .before .before .before .before .before .before .before .before .before .before .before .before .before .before .args .input .now)) (r .last .1 .0) (r .last .1 .1 .0) (r .result) (Request (q .0 .0)) (q .1) (r .ensures) in
-    rw (le-leb (length (c .before .before .before .before .before .before .before .before .before .before .before .before .before .before .before .args .input .now)) 131072 (c .before .before .before .before .before .before .before .before .before .before .before .before .before .if1 .left), asked .3) (c .list .ensures)
+    let c₆ = c .before .before .before .before .before .before in
+    let c₁₀ = c₆ .before .before .before .before in
+    let q = c₆ .asked .given in
+    let asked = answers c₁₀ (Request (q .0 .0)) (q .1) in
+    let short = le-leb (length (c₁₀ .before .before .before .before .before .args .input .now)) 131072 (c₁₀ .before .before .before .if1 .left) in
+    rw (short, asked .asks) (c .list .ensures)
 
 pub buslog-spec : {M : Type 1} → statement M
 buslog-spec =
     tie.close
     (tie.spec
-    bad-requires
+    (λ c κs. search needs)
     returns
-    slice-aggregate-read-task
-    slice-aggregate-read-task-2
-    read-task-requires
-    enum-told
-    bad-requires-2
-    enum-known-asked
+    (λ c. search needs)
+    (λ c. search needs)
+    (λ c κs. search needs)
+    (λ c. search needs)
+    (λ c κs. search needs)
+    (λ c. search needs)
     array-share-prefix-written
     slice-aggregate-list
     array-share-prefix-answers

@@ -19,28 +19,17 @@ abbrev μ-loop : tie.MeasureT-loop
 loop-holds : tie.Need-loop-holds Inv-loop μ-loop
 loop-holds c = (omega arith, refl, refl)
 
-mul-to : tie.Need-mul-to Inv-loop μ-loop
-mul-to c = search needs
-
-shared-slice-read-to : tie.Need-shared-slice-read-to Inv-loop μ-loop
-shared-slice-read-to c = search needs
-
 cast-to : tie.Need-cast-to Inv-loop μ-loop
 cast-to c = record { fits = c .before .before .before .pre .1 (c .before .before .loop .i) }
 
-slice-write-to : tie.Need-slice-write-to Inv-loop μ-loop
-slice-write-to c = search needs
-
-add-i : tie.Need-add-i Inv-loop μ-loop
-add-i c = search needs
-
-loop-less : tie.Need-loop-less Inv-loop μ-loop
-loop-less c = search needs
-
 loop-again : tie.Need-loop-again Inv-loop μ-loop
 loop-again c =
-    let l = c .before .before .loop in
-    (omega arith, length-set (l .to) (l .i) _ ∙ l .inv .1, copied-more (c .before .before .before .args .from .now) (l .to) (l .i) (omega (arith, c .before .before .before .pre .0)) (omega (arith, c .before .before .before .pre .0, l .inv .1)) (l .inv .2))
+    let l = c .before .before .loop in (
+      omega arith,
+      length-set (l .to) (l .i) _ ∙ l .inv .1,
+      copied-more (c .before .before .before .args .from .now) (l .to) (l .i) (omega (arith, c .before .before .before .pre .0))
+          (omega (arith, c .before .before .before .pre .0, l .inv .1)) (l .inv .2),
+    )
 
 same-length : tie.Need-same-length Inv-loop μ-loop
 same-length c = c .before .loop .inv .1
@@ -49,7 +38,9 @@ returns : tie.Need-returns Inv-loop μ-loop
 returns c =
     let l = c .before .loop in
     let m = c .before .before .pre .0 in
-    sym (take-all (l .i) (l .to) (omega (arith, l .inv .1))) ∙ l .inv .2 ∙ take-all (l .i) (c .before .before .args .from .now) (omega (arith, m))
+    sym (take-all (l .i) (l .to) (omega (arith, l .inv .1)))
+    ∙ l .inv .2
+    ∙ take-all (l .i) (c .before .before .args .from .now) (omega (arith, m))
 
 pub narrow-u8-spec : {M : Type 1} → statement M
 narrow-u8-spec =
@@ -58,12 +49,12 @@ narrow-u8-spec =
     Inv-loop
     μ-loop
     loop-holds
-    mul-to
-    shared-slice-read-to
+    (λ c. search needs)
+    (λ c. search needs)
     cast-to
-    slice-write-to
-    add-i
-    loop-less
+    (λ c. search needs)
+    (λ c. search needs)
+    (λ c. search needs)
     loop-again
     same-length
     returns)

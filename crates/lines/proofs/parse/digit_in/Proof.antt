@@ -7,15 +7,6 @@ use borrow.Author.Needs.{needs}
 use Rattle.lines.proofs.parse.digit_in.Statement.{statement}
 use Rattle.lines.proofs.parse.digit_in.Tie as tie
 
-digit-requires : tie.Need-digit-requires
-digit-requires c κs = search needs
-
-enum-told : tie.Need-enum-told
-enum-told c = search needs
-
-enum-known-d : tie.Need-enum-known-d
-enum-known-d c = search needs
-
 returns : tie.Need-returns
 returns c =
     let e = sym (c .before .before .before .before .digit .ensures) ∙ ap numberAnswer (c .before .before .d .given .1) in
@@ -31,4 +22,4 @@ returns-3 c =
 
 pub digit-in-spec : {M : Type 1} → statement M
 digit-in-spec =
-    tie.close (tie.spec digit-requires enum-told enum-known-d returns returns-2 returns-3)
+    tie.close (tie.spec (λ c κs. search needs) (λ c. search needs) (λ c. search needs) returns returns-2 returns-3)

@@ -13,13 +13,12 @@ use Rattle.lines.proofs.parse.read_element.Tie as tie
 returns : tie.Need-returns
 returns c = let a = c .before .before .args in rw (lt-leb (length (a .field .now)) (a .k / 4) (c .if1 .taken))
 
-read-number-requires : tie.Need-read-number-requires
-read-number-requires c κs = search needs
-
 returns-2 : tie.Need-returns-2
 returns-2 c =
     let a = c .before .before .before .args in
-    c .read-number .ensures ∙ numeral-fits (a .field .now) (omega arith) ∙ sym (rw (le-leb (length (a .field .now)) (a .k / 4) (c .before .if1 .left)))
+    c .read-number .ensures
+    ∙ numeral-fits (a .field .now) (omega arith)
+    ∙ sym (rw (le-leb (length (a .field .now)) (a .k / 4) (c .before .if1 .left)))
 
 pub read-element-spec : {M : Type 1} → statement M
-read-element-spec = tie.close (tie.spec returns read-number-requires returns-2)
+read-element-spec = tie.close (tie.spec returns (λ c κs. search needs) returns-2)

@@ -20,39 +20,24 @@ use Rattle.lines.proofs.parse.read_elements.Statement.{statement}
 use Rattle.lines.proofs.parse.read_elements.Tie as tie
 
 abbrev Inv-loop : tie.InvT-loop
-Inv-loop k most line out₀ from₀ n₀ out from n = (from ≤ length line) × (n ≤ most) × (length out ≡ length out₀) × (togo k most (take n out) (split space (drop from line)) ≡ lineElements k most line)
+Inv-loop k most line out₀ from₀ n₀ out from n =
+    (from ≤ length line) × (n ≤ most) × (length out ≡ length out₀)
+    × (togo k most (take n out) (split space (drop from line)) ≡ lineElements k most line)
 
 abbrev μ-loop : tie.MeasureT-loop
 μ-loop k most line out₀ from₀ n₀ out from n = length line - from
 
 returns : tie.Need-returns Inv-loop μ-loop
-returns c = (omega arith, empty-line (c .before .before .before .args .k) (c .before .before .before .args .most) (c .before .before .before .args .line .now) (c .if1 .taken))
+returns c = (
+  omega arith,
+  empty-line (c .before .before .before .args .k) (c .before .before .before .args .most)
+      (c .before .before .before .args .line .now) (c .if1 .taken),
+)
 
 loop-holds : tie.Need-loop-holds Inv-loop μ-loop
 loop-holds c =
     let a = c .before .before .before .args in
     (omega arith, omega arith, refl, togo-start (a .k) (a .most) (a .line .now) (nonzero (length (a .line .now)) (c .if1 .left)))
-
-up-to-requires : tie.Need-up-to-requires Inv-loop μ-loop
-up-to-requires c κs = search needs
-
-sub-read-element : tie.Need-sub-read-element Inv-loop μ-loop
-sub-read-element c = search needs
-
-part-read-element-start : tie.Need-part-read-element-start Inv-loop μ-loop
-part-read-element-start c = search needs
-
-part-read-element-end : tie.Need-part-read-element-end Inv-loop μ-loop
-part-read-element-end c = search needs
-
-read-element-requires : tie.Need-read-element-requires Inv-loop μ-loop
-read-element-requires c κs = search needs
-
-enum-told : tie.Need-enum-told Inv-loop μ-loop
-enum-told c = search needs
-
-same-length : tie.Need-same-length Inv-loop μ-loop
-same-length c = search needs
 
 returns-2 : tie.Need-returns-2 Inv-loop μ-loop
 returns-2 c =
@@ -66,67 +51,53 @@ returns-2 c =
     let here = sym (l .inv .3) ∙ ap (togo (a .k) (a .most) (take (l .n) (l .out))) parts in
     here ∙ togo-bad (a .k) (a .most) (take (l .n) (l .out)) f fs e
 
-enum-known-x : tie.Need-enum-known-x Inv-loop μ-loop
-enum-known-x c = search needs
-
-same-length-2 : tie.Need-same-length-2 Inv-loop μ-loop
-same-length-2 c = search needs
-
 returns-3 : tie.Need-returns-3 Inv-loop μ-loop
 returns-3 c =
-    let a = c .before .before .before .before .before .before .before .before .before .before .before .args in
-    let l = c .before .before .before .before .before .before .before .loop in
-    let u = c .before .before .before .before .before .before .up-to in
+    let c₄ = c .before .before .before .before in
+    let c₁₁ = c₄ .before .before .before .before .before .before .before in
+    let a = c₁₁ .args in
+    let l = c₄ .before .before .before .loop in
+    let u = c₄ .before .before .up-to in
     let f = take (u .result - l .from) (drop (l .from) (a .line .now)) in
     let fs = later space (a .line .now) (u .result) in
-    let e = sym (c .before .before .before .before .read-element .ensures) ∙ ap numberAnswer (c .before .before .x .given .1) in
+    let e = sym (c₄ .read-element .ensures) ∙ ap numberAnswer (c .before .before .x .given .1) in
     let parts = fields space (a .line .now) (l .from) (u .result) (l .inv .0) (u .ensures .0) (u .ensures .1) in
     let here = sym (l .inv .3) ∙ ap (togo (a .k) (a .most) (take (l .n) (l .out))) parts in
     let x = c .before .before .x .given .0 .0 in
-    let many : length (take (l .n) (l .out)) ≡ l .n = length-take-le (l .n) (l .out) (omega (arith, l .inv .1, l .inv .2, c .before .before .before .before .before .before .before .before .before .before .before .pre .1)) in
-    let longer : length (take (l .n) (l .out) ++ (x ∷ [])) ≡ l .n + 1 = length-append (take (l .n) (l .out)) (x ∷ []) ∙ ap (λ (m : ℕ). m + 1) many in
+    let many : length (take (l .n) (l .out)) ≡ l .n = length-take-le (l .n) (l .out) (omega (arith, l .inv .1, l .inv .2, c₁₁ .pre .1)) in
+    let longer : length (take (l .n) (l .out) ++ (x ∷ [])) ≡ l .n + 1 =
+    length-append (take (l .n) (l .out)) (x ∷ []) ∙ ap (λ (m : ℕ). m + 1) many in
     let read = here ∙ togo-more (a .k) (a .most) x (take (l .n) (l .out)) f fs e in
     read ∙ togo-over (a .k) (a .most) (take (l .n) (l .out) ++ (x ∷ [])) fs (omega (arith, longer, c .if2 .taken))
 
-mul-out : tie.Need-mul-out Inv-loop μ-loop
-mul-out c = search needs
-
-slice-write-out : tie.Need-slice-write-out Inv-loop μ-loop
-slice-write-out c = search needs
-
-add-n : tie.Need-add-n Inv-loop μ-loop
-add-n c = search needs
-
-cast-t20 : tie.Need-cast-t20 Inv-loop μ-loop
-cast-t20 c = search needs
-
-same-length-3 : tie.Need-same-length-3 Inv-loop μ-loop
-same-length-3 c = search needs
-
 returns-4 : tie.Need-returns-4 Inv-loop μ-loop
 returns-4 c =
-    let a = c .before .before .before .before .before .before .before .before .before .before .before .before .args in
-    let l = c .before .before .before .before .before .before .before .before .loop in
-    let u = c .before .before .before .before .before .before .before .up-to in
+    let c₅ = c .before .before .before .before .before in
+    let c₁₂ = c₅ .before .before .before .before .before .before .before in
+    let a = c₁₂ .args in
+    let l = c₅ .before .before .before .loop in
+    let u = c₅ .before .before .up-to in
     let f = take (u .result - l .from) (drop (l .from) (a .line .now)) in
     let fs = later space (a .line .now) (u .result) in
-    let e = sym (c .before .before .before .before .before .read-element .ensures) ∙ ap numberAnswer (c .before .before .before .x .given .1) in
+    let e = sym (c₅ .read-element .ensures) ∙ ap numberAnswer (c .before .before .before .x .given .1) in
     let parts = fields space (a .line .now) (l .from) (u .result) (l .inv .0) (u .ensures .0) (u .ensures .1) in
     let here = sym (l .inv .3) ∙ ap (togo (a .k) (a .most) (take (l .n) (l .out))) parts in
     let x = c .before .before .before .x .given .0 .0 in
-    let many : length (take (l .n) (l .out)) ≡ l .n = length-take-le (l .n) (l .out) (omega (arith, l .inv .1, l .inv .2, c .before .before .before .before .before .before .before .before .before .before .before .before .pre .1)) in
-    let longer : length (take (l .n) (l .out) ++ (x ∷ [])) ≡ l .n + 1 = length-append (take (l .n) (l .out)) (x ∷ []) ∙ ap (λ (m : ℕ). m + 1) many in
+    let many : length (take (l .n) (l .out)) ≡ l .n = length-take-le (l .n) (l .out) (omega (arith, l .inv .1, l .inv .2, c₁₂ .pre .1)) in
+    let longer : length (take (l .n) (l .out) ++ (x ∷ [])) ≡ l .n + 1 =
+    length-append (take (l .n) (l .out)) (x ∷ []) ∙ ap (λ (m : ℕ). m + 1) many in
     let read = here ∙ togo-more (a .k) (a .most) x (take (l .n) (l .out)) f fs e in
-    let room : l .n < length (l .out) = omega (arith, l .inv .2, c .before .before .before .before .before .before .before .before .before .before .before .before .pre .1, c .before .if2 .left) in
-    let stored : take (l .n + 1) (set (l .out) (l .n) x) ≡ take (l .n) (l .out) ++ (x ∷ []) = ap (λ (m : ℕ). take m (set (l .out) (l .n) x)) (add-one (l .n)) ∙ take-suc-set (l .out) (l .n) x room in
+    let room : l .n < length (l .out) = omega (arith, l .inv .2, c₁₂ .pre .1, c .before .if2 .left) in
+    let stored : take (l .n + 1) (set (l .out) (l .n) x) ≡ take (l .n) (l .out) ++ (x ∷ []) =
+    ap (λ (m : ℕ). take m (set (l .out) (l .n) x)) (add-one (l .n)) ∙ take-suc-set (l .out) (l .n) x room in
     let same = length-set (l .out) (l .n) x in
     let last : fs ≡ [] = rw (le-ltb (u .result) (length (a .line .now)) (omega (arith, c .if3 .taken))) in (
       omega (arith, room, same),
-      read ∙ ap (togo (a .k) (a .most) (take (l .n) (l .out) ++ (x ∷ []))) last ∙ togo-end (a .k) (a .most) (take (l .n) (l .out) ++ (x ∷ [])) (omega (arith, longer, c .before .if2 .left)) ∙ ap some (sym stored),
+      read
+          ∙ ap (togo (a .k) (a .most) (take (l .n) (l .out) ++ (x ∷ []))) last
+          ∙ togo-end (a .k) (a .most) (take (l .n) (l .out) ++ (x ∷ [])) (omega (arith, longer, c .before .if2 .left))
+          ∙ ap some (sym stored),
     )
-
-add-from : tie.Need-add-from Inv-loop μ-loop
-add-from c = search needs
 
 loop-less : tie.Need-loop-less Inv-loop μ-loop
 loop-less c =
@@ -138,20 +109,24 @@ loop-less c =
 
 loop-again : tie.Need-loop-again Inv-loop μ-loop
 loop-again c =
-    let a = c .before .before .before .before .before .before .before .before .before .before .before .before .args in
-    let l = c .before .before .before .before .before .before .before .before .loop in
-    let u = c .before .before .before .before .before .before .before .up-to in
+    let c₅ = c .before .before .before .before .before in
+    let c₁₂ = c₅ .before .before .before .before .before .before .before in
+    let a = c₁₂ .args in
+    let l = c₅ .before .before .before .loop in
+    let u = c₅ .before .before .up-to in
     let f = take (u .result - l .from) (drop (l .from) (a .line .now)) in
     let fs = later space (a .line .now) (u .result) in
-    let e = sym (c .before .before .before .before .before .read-element .ensures) ∙ ap numberAnswer (c .before .before .before .x .given .1) in
+    let e = sym (c₅ .read-element .ensures) ∙ ap numberAnswer (c .before .before .before .x .given .1) in
     let parts = fields space (a .line .now) (l .from) (u .result) (l .inv .0) (u .ensures .0) (u .ensures .1) in
     let here = sym (l .inv .3) ∙ ap (togo (a .k) (a .most) (take (l .n) (l .out))) parts in
     let x = c .before .before .before .x .given .0 .0 in
-    let many : length (take (l .n) (l .out)) ≡ l .n = length-take-le (l .n) (l .out) (omega (arith, l .inv .1, l .inv .2, c .before .before .before .before .before .before .before .before .before .before .before .before .pre .1)) in
-    let longer : length (take (l .n) (l .out) ++ (x ∷ [])) ≡ l .n + 1 = length-append (take (l .n) (l .out)) (x ∷ []) ∙ ap (λ (m : ℕ). m + 1) many in
+    let many : length (take (l .n) (l .out)) ≡ l .n = length-take-le (l .n) (l .out) (omega (arith, l .inv .1, l .inv .2, c₁₂ .pre .1)) in
+    let longer : length (take (l .n) (l .out) ++ (x ∷ [])) ≡ l .n + 1 =
+    length-append (take (l .n) (l .out)) (x ∷ []) ∙ ap (λ (m : ℕ). m + 1) many in
     let read = here ∙ togo-more (a .k) (a .most) x (take (l .n) (l .out)) f fs e in
-    let room : l .n < length (l .out) = omega (arith, l .inv .2, c .before .before .before .before .before .before .before .before .before .before .before .before .pre .1, c .before .if2 .left) in
-    let stored : take (l .n + 1) (set (l .out) (l .n) x) ≡ take (l .n) (l .out) ++ (x ∷ []) = ap (λ (m : ℕ). take m (set (l .out) (l .n) x)) (add-one (l .n)) ∙ take-suc-set (l .out) (l .n) x room in
+    let room : l .n < length (l .out) = omega (arith, l .inv .2, c₁₂ .pre .1, c .before .if2 .left) in
+    let stored : take (l .n + 1) (set (l .out) (l .n) x) ≡ take (l .n) (l .out) ++ (x ∷ []) =
+    ap (λ (m : ℕ). take m (set (l .out) (l .n) x)) (add-one (l .n)) ∙ take-suc-set (l .out) (l .n) x room in
     let same = length-set (l .out) (l .n) x in
     let inside : u .result < length (a .line .now) = before-end (u .result) (length (a .line .now)) (u .ensures .1) (c .if3 .left) in
     let next : fs ≡ split space (drop (u .result + 1) (a .line .now)) = rw (lt-ltb (u .result) (length (a .line .now)) inside) in (
@@ -169,23 +144,23 @@ read-elements-spec =
     μ-loop
     returns
     loop-holds
-    up-to-requires
-    sub-read-element
-    part-read-element-start
-    part-read-element-end
-    read-element-requires
-    enum-told
-    same-length
+    (λ c κs. search needs)
+    (λ c. search needs)
+    (λ c. search needs)
+    (λ c. search needs)
+    (λ c κs. search needs)
+    (λ c. search needs)
+    (λ c. search needs)
     returns-2
-    enum-known-x
-    same-length-2
+    (λ c. search needs)
+    (λ c. search needs)
     returns-3
-    mul-out
-    slice-write-out
-    add-n
-    cast-t20
-    same-length-3
+    (λ c. search needs)
+    (λ c. search needs)
+    (λ c. search needs)
+    (λ c. search needs)
+    (λ c. search needs)
     returns-4
-    add-from
+    (λ c. search needs)
     loop-less
     loop-again)

@@ -13,9 +13,6 @@ use borrow.Author.Needs.{needs}
 use Rattle.lines.proofs.parse.read_first.Statement.{statement}
 use Rattle.lines.proofs.parse.read_first.Tie as tie
 
-up-to-requires : tie.Need-up-to-requires
-up-to-requires c κs = search needs
-
 returns : tie.Need-returns
 returns c =
     let line = c .before .before .before .args .line .now in
@@ -23,12 +20,6 @@ returns c =
     let p₁ = first-part space line (u₁ .result) (u₁ .ensures .0) (u₁ .ensures .1) in
     let w = take (u₁ .result) line in
     sym (ap header (p₁ ∙ ap (λ (ps : List (List ℕ)). w ∷ ps) (no-part space line (u₁ .result) (c .if1 .taken))))
-
-add-up-to : tie.Need-add-up-to
-add-up-to c = search needs
-
-up-to-requires-2 : tie.Need-up-to-requires-2
-up-to-requires-2 c κs = search needs
 
 returns-2 : tie.Need-returns-2
 returns-2 c =
@@ -39,13 +30,11 @@ returns-2 c =
     let u₂ = c .before .up-to2 in
     let p₂ = next-part space line (u₁ .result) (u₂ .result) (c .before .before .if1 .left) (u₂ .ensures .0) (u₂ .ensures .1) in
     let o = take (u₂ .result - (u₁ .result + 1)) (drop (u₁ .result + 1) line) in
-    sym (ap header (p₁ ∙ ap (λ (ps : List (List ℕ)). w ∷ ps) (p₂ ∙ ap (λ (ps : List (List ℕ)). o ∷ ps) (no-part space line (u₂ .result) (c .if2 .taken)))))
-
-add-up-to-2 : tie.Need-add-up-to-2
-add-up-to-2 c = search needs
-
-up-to-requires-3 : tie.Need-up-to-requires-3
-up-to-requires-3 c κs = search needs
+    sym
+    (ap header
+    (p₁
+    ∙ ap (λ (ps : List (List ℕ)). w ∷ ps)
+    (p₂ ∙ ap (λ (ps : List (List ℕ)). o ∷ ps) (no-part space line (u₂ .result) (c .if2 .taken)))))
 
 returns-3 : tie.Need-returns-3
 returns-3 c =
@@ -54,7 +43,9 @@ returns-3 c =
     let p₁ = first-part space line (u₁ .result) (u₁ .ensures .0) (u₁ .ensures .1) in
     let w = take (u₁ .result) line in
     let u₂ = c .before .before .before .up-to2 in
-    let p₂ = next-part space line (u₁ .result) (u₂ .result) (c .before .before .before .before .if1 .left) (u₂ .ensures .0) (u₂ .ensures .1) in
+    let p₂ =
+    next-part space line (u₁ .result) (u₂ .result) (c .before .before .before .before .if1 .left)
+    (u₂ .ensures .0) (u₂ .ensures .1) in
     let o = take (u₂ .result - (u₁ .result + 1)) (drop (u₁ .result + 1) line) in
     let u₃ = c .before .up-to3 in
     let p₃ = next-part space line (u₂ .result) (u₃ .result) (c .before .before .if2 .left) (u₃ .ensures .0) (u₃ .ensures .1) in
@@ -66,69 +57,45 @@ returns-3 c =
 slice-aggregate-read-header : tie.Need-slice-aggregate-read-header
 slice-aggregate-read-header c = sym (length-take-le _ _ (search needs))
 
-add-read-header : tie.Need-add-read-header
-add-read-header c = search needs
-
-sub-read-header : tie.Need-sub-read-header
-sub-read-header c = search needs
-
-part-read-header-start : tie.Need-part-read-header-start
-part-read-header-start c = search needs
-
-part-read-header-end : tie.Need-part-read-header-end
-part-read-header-end c = search needs
-
-add-read-header-2 : tie.Need-add-read-header-2
-add-read-header-2 c = search needs
-
-sub-read-header-2 : tie.Need-sub-read-header-2
-sub-read-header-2 c = search needs
-
-part-read-header-start-2 : tie.Need-part-read-header-start-2
-part-read-header-start-2 c = search needs
-
-part-read-header-end-2 : tie.Need-part-read-header-end-2
-part-read-header-end-2 c = search needs
-
-read-header-requires : tie.Need-read-header-requires
-read-header-requires c κs = search needs
-
 returns-4 : tie.Need-returns-4
 returns-4 c =
-    let line = c .before .before .before .before .before .before .before .before .before .before .before .args .line .now in
-    let u₁ = c .before .before .before .before .before .before .before .before .before .up-to in
+    let c₄ = c .before .before .before .before in
+    let c₈ = c₄ .before .before .before .before in
+    let line = c₈ .before .before .before .args .line .now in
+    let u₁ = c₈ .before .up-to in
     let p₁ = first-part space line (u₁ .result) (u₁ .ensures .0) (u₁ .ensures .1) in
     let w = take (u₁ .result) line in
-    let u₂ = c .before .before .before .before .before .before .before .up-to2 in
-    let p₂ = next-part space line (u₁ .result) (u₂ .result) (c .before .before .before .before .before .before .before .before .if1 .left) (u₂ .ensures .0) (u₂ .ensures .1) in
+    let u₂ = c₄ .before .before .before .up-to2 in
+    let p₂ = next-part space line (u₁ .result) (u₂ .result) (c₈ .if1 .left) (u₂ .ensures .0) (u₂ .ensures .1) in
     let o = take (u₂ .result - (u₁ .result + 1)) (drop (u₁ .result + 1) line) in
-    let u₃ = c .before .before .before .before .before .up-to3 in
-    let p₃ = next-part space line (u₂ .result) (u₃ .result) (c .before .before .before .before .before .before .if2 .left) (u₃ .ensures .0) (u₃ .ensures .1) in
+    let u₃ = c₄ .before .up-to3 in
+    let p₃ = next-part space line (u₂ .result) (u₃ .result) (c₄ .before .before .if2 .left) (u₃ .ensures .0) (u₃ .ensures .1) in
     let n = take (u₃ .result - (u₂ .result + 1)) (drop (u₂ .result + 1) line) in
     let parts : split space line ≡ w ∷ o ∷ n ∷ later space line (u₃ .result) =
     p₁ ∙ ap (λ (ps : List (List ℕ)). w ∷ ps) (p₂ ∙ ap (λ (ps : List (List ℕ)). o ∷ ps) p₃) in
-    c .read-header .ensures ∙ sym (ap header (parts ∙ ap (λ (ps : List (List ℕ)). w ∷ o ∷ n ∷ ps) (no-part space line (u₃ .result) (c .before .before .before .before .if3 .left))))
+    c .read-header .ensures
+    ∙ sym (ap header (parts ∙ ap (λ (ps : List (List ℕ)). w ∷ o ∷ n ∷ ps) (no-part space line (u₃ .result) (c₄ .if3 .left))))
 
 pub read-first-spec : {M : Type 1} → statement M
 read-first-spec =
     tie.close
     (tie.spec
-    up-to-requires
+    (λ c κs. search needs)
     returns
-    add-up-to
-    up-to-requires-2
+    (λ c. search needs)
+    (λ c κs. search needs)
     returns-2
-    add-up-to-2
-    up-to-requires-3
+    (λ c. search needs)
+    (λ c κs. search needs)
     returns-3
     slice-aggregate-read-header
-    add-read-header
-    sub-read-header
-    part-read-header-start
-    part-read-header-end
-    add-read-header-2
-    sub-read-header-2
-    part-read-header-start-2
-    part-read-header-end-2
-    read-header-requires
+    (λ c. search needs)
+    (λ c. search needs)
+    (λ c. search needs)
+    (λ c. search needs)
+    (λ c. search needs)
+    (λ c. search needs)
+    (λ c. search needs)
+    (λ c. search needs)
+    (λ c κs. search needs)
     returns-4)

@@ -16,7 +16,8 @@ use Rattle.lines.proofs.parse.read_number.Statement.{statement}
 use Rattle.lines.proofs.parse.read_number.Tie as tie
 
 abbrev Inv-loop : tie.InvT-loop
-Inv-loop base field n₀ i₀ i-end n i = (i ≤ i-end) × (n < 2 ^ 32) × (bind (numeralFrom base n (drop i field)) small ≡ bind (numeral base field) small)
+Inv-loop base field n₀ i₀ i-end n i =
+    (i ≤ i-end) × (n < 2 ^ 32) × (bind (numeralFrom base n (drop i field)) small ≡ bind (numeral base field) small)
 
 abbrev μ-loop : tie.MeasureT-loop
 μ-loop base field n₀ i₀ i-end n i = i-end - i
@@ -26,17 +27,12 @@ returns c = let a = c .before .before .args in rw (numeral-nothing (a .base) (a 
 
 loop-holds : tie.Need-loop-holds Inv-loop μ-loop
 loop-holds c =
-    let a = c .before .before .args in
-    (omega arith, omega arith, ap (λ (o : Option ℕ). bind o small) (sym (numeral-begins (a .base) (a .field .now) (omega (arith, nonzero (length (a .field .now)) (c .if1 .left))))))
-
-shared-slice-read-digit-in : tie.Need-shared-slice-read-digit-in Inv-loop μ-loop
-shared-slice-read-digit-in c = search needs
-
-digit-in-requires : tie.Need-digit-in-requires Inv-loop μ-loop
-digit-in-requires c κs = search needs
-
-enum-told : tie.Need-enum-told Inv-loop μ-loop
-enum-told c = search needs
+    let a = c .before .before .args in (
+      omega arith,
+      omega arith,
+      ap (λ (o : Option ℕ). bind o small)
+          (sym (numeral-begins (a .base) (a .field .now) (omega (arith, nonzero (length (a .field .now)) (c .if1 .left))))),
+    )
 
 returns-2 : tie.Need-returns-2 Inv-loop μ-loop
 returns-2 c =
@@ -45,29 +41,31 @@ returns-2 c =
     let e = sym (c .before .before .digit-in .ensures) ∙ ap numberAnswer (c .enum-told .given .1) in
     sym (ap (λ (o : Option ℕ). bind o small) (number-bad (a .base) (l .n) (a .field .now) (l .i) (omega arith) e)) ∙ l .inv .2
 
-enum-known-d : tie.Need-enum-known-d Inv-loop μ-loop
-enum-known-d c = search needs
-
 mul-more : tie.Need-mul-more Inv-loop μ-loop
-mul-more c = let l = c .before .before .before .before .before .before .loop in record { fits = omega (arith, mul-le-mul-left (l .n) (c .before .before .before .before .before .before .before .before .before .pre .1), l .inv .1) }
-
-cast-more : tie.Need-cast-more Inv-loop μ-loop
-cast-more c = search needs
+mul-more c =
+    let c₆ = c .before .before .before .before .before .before in
+    let l = c₆ .loop in record { fits = omega (arith, mul-le-mul-left (l .n) (c₆ .before .before .before .pre .1), l .inv .1) }
 
 add-more : tie.Need-add-more Inv-loop μ-loop
 add-more c =
-    let l = c .before .before .before .before .before .before .loop in
+    let c₆ = c .before .before .before .before .before .before in
+    let l = c₆ .loop in
     let d : c .before .d .given .0 .0 < 2 ^ 32 = search needs in
-    record { fits = omega (arith, mul-le-mul-left (l .n) (c .before .before .before .before .before .before .before .before .before .pre .1), l .inv .1, d) }
+    record { fits = omega (arith, mul-le-mul-left (l .n) (c₆ .before .before .before .pre .1), l .inv .1, d) }
 
 returns-3 : tie.Need-returns-3 Inv-loop μ-loop
 returns-3 c =
-    let a = c .before .before .before .before .before .before .before .before .before .before .args in
-    let l = c .before .before .before .before .before .before .before .loop in
+    let c₄ = c .before .before .before .before in
+    let c₁₀ = c₄ .before .before .before .before .before .before in
+    let a = c₁₀ .args in
+    let l = c₄ .before .before .before .loop in
     let d = c .before .before .d .given .0 .0 in
-    let e = sym (c .before .before .before .before .digit-in .ensures) ∙ ap numberAnswer (c .before .before .d .given .1) in
+    let e = sym (c₄ .digit-in .ensures) ∙ ap numberAnswer (c .before .before .d .given .1) in
     let step = ap (λ (o : Option ℕ). bind o small) (number-more (a .base) (l .n) (a .field .now) (l .i) d (omega arith) e) in
-    sym (number-large (a .base) (l .n * a .base + d) (drop (l .i + 1) (a .field .now)) (c .before .before .before .before .before .before .before .before .before .before .pre .0) (omega (arith, c .if2 .taken))) ∙ sym step ∙ l .inv .2
+    sym
+    (number-large (a .base) (l .n * a .base + d) (drop (l .i + 1) (a .field .now)) (c₁₀ .pre .0) (omega (arith, c .if2 .taken)))
+    ∙ sym step
+    ∙ l .inv .2
 
 add-i : tie.Need-add-i Inv-loop μ-loop
 add-i c = omega arith
@@ -83,9 +81,6 @@ loop-again c =
     let e = sym (c .before .before .before .before .digit-in .ensures) ∙ ap numberAnswer (c .before .before .d .given .1) in
     let step = ap (λ (o : Option ℕ). bind o small) (number-more (a .base) (l .n) (a .field .now) (l .i) d (omega arith) e) in
     (omega arith, omega (arith, c .if2 .left), sym step ∙ l .inv .2)
-
-cast-t18 : tie.Need-cast-t18 Inv-loop μ-loop
-cast-t18 c = search needs
 
 returns-4 : tie.Need-returns-4 Inv-loop μ-loop
 returns-4 c =
@@ -103,17 +98,17 @@ read-number-spec =
     μ-loop
     returns
     loop-holds
-    shared-slice-read-digit-in
-    digit-in-requires
-    enum-told
+    (λ c. search needs)
+    (λ c κs. search needs)
+    (λ c. search needs)
     returns-2
-    enum-known-d
+    (λ c. search needs)
     mul-more
-    cast-more
+    (λ c. search needs)
     add-more
     returns-3
     add-i
     loop-less
     loop-again
-    cast-t18
+    (λ c. search needs)
     returns-4)

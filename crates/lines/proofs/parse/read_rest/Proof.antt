@@ -10,112 +10,84 @@ use borrow.Author.Needs.{needs}
 use Rattle.lines.proofs.parse.read_rest.Statement.{statement}
 use Rattle.lines.proofs.parse.read_rest.Tie as tie
 
-read-elements-requires : tie.Need-read-elements-requires
-read-elements-requires c κs = search needs
-
-enum-told : tie.Need-enum-told
-enum-told c = search needs
-
-enum-known-w : tie.Need-enum-known-w
-enum-known-w c = search needs
-
-read-count-requires : tie.Need-read-count-requires
-read-count-requires c κs = search needs
-
-enum-told-2 : tie.Need-enum-told-2
-enum-told-2 c = search needs
-
-enum-known-n : tie.Need-enum-known-n
-enum-known-n c = search needs
-
-read-elements-requires-2 : tie.Need-read-elements-requires-2
-read-elements-requires-2 c κs = search needs
-
-enum-told-3 : tie.Need-enum-told-3
-enum-told-3 c = search needs
-
-enum-known-v : tie.Need-enum-known-v
-enum-known-v c = search needs
-
-cast-t20 : tie.Need-cast-t20
-cast-t20 c = search needs
-
-cast-t21 : tie.Need-cast-t21
-cast-t21 c = search needs
-
-cast-t22 : tie.Need-cast-t22
-cast-t22 c = search needs
-
-same-length : tie.Need-same-length
-same-length c = search needs
-
 returns : tie.Need-returns
 returns c =
-    let a = c .before .before .before .before .before .before .before .before .before .before .before .args in
-    let w = as-elements (a .header .width) 512 (a .write .now) (c .before .before .before .before .read-elements .last .1 .1 .1 .0) (c .before .before .before .before .read-elements .result) Bad (c .enum-told .given .1) (c .before .before .before .before .read-elements .ensures) in
+    let c₄ = c .before .before .before .before in
+    let a = c₄ .before .before .before .before .before .before .before .args in
+    let w =
+    as-elements (a .header .width) 512 (a .write .now) (c₄ .read-elements .last .1 .1 .1 .0) (c₄ .read-elements .result) Bad
+    (c .enum-told .given .1) (c₄ .read-elements .ensures) in
     rw w
-
-same-length-2 : tie.Need-same-length-2
-same-length-2 c = search needs
 
 returns-2 : tie.Need-returns-2
 returns-2 c =
-    let a = c .before .before .before .before .before .before .before .before .before .before .before .before .before .before .before .args in
-    let w = as-elements (a .header .width) 512 (a .write .now) (c .before .before .before .before .before .before .before .before .read-elements .last .1 .1 .1 .0) (c .before .before .before .before .before .before .before .before .read-elements .result) (Value (c .before .before .before .before .w .given .0 .0)) (c .before .before .before .before .w .given .1) (c .before .before .before .before .before .before .before .before .read-elements .ensures) in
+    let c₄ = c .before .before .before .before in
+    let c₈ = c₄ .before .before .before .before in
+    let a = c₈ .before .before .before .before .before .before .before .args in
+    let w =
+    as-elements (a .header .width) 512 (a .write .now) (c₈ .read-elements .last .1 .1 .1 .0) (c₈ .read-elements .result)
+    (Value (c₄ .w .given .0 .0)) (c₄ .w .given .1) (c₈ .read-elements .ensures) in
     let n = sym (c .before .before .read-count .ensures) ∙ ap numberAnswer (c .enum-told2 .given .1) in
     rw (w .1, n)
 
-same-length-3 : tie.Need-same-length-3
-same-length-3 c = search needs
-
-same-length-4 : tie.Need-same-length-4
-same-length-4 c = search needs
-
 returns-3 : tie.Need-returns-3
 returns-3 c =
-    let a = c .before .before .before .before .before .before .before .before .before .before .before .before .before .before .before .before .before .before .before .before .before .before .args in
-    let w = as-elements (a .header .width) 512 (a .write .now) (c .before .before .before .before .before .before .before .before .before .before .before .before .before .before .before .read-elements .last .1 .1 .1 .0) (c .before .before .before .before .before .before .before .before .before .before .before .before .before .before .before .read-elements .result) (Value (c .before .before .before .before .before .before .before .before .before .before .before .w .given .0 .0)) (c .before .before .before .before .before .before .before .before .before .before .before .w .given .1) (c .before .before .before .before .before .before .before .before .before .before .before .before .before .before .before .read-elements .ensures) in
-    let n = sym (c .before .before .before .before .before .before .before .before .before .read-count .ensures) ∙ ap numberAnswer (c .before .before .before .before .before .before .before .n .given .1) in
-    let v = as-elements 32 8000 (a .script .now) (c .before .before .before .before .read-elements2 .last .1 .1 .1 .0) (c .before .before .before .before .read-elements2 .result) Bad (c .enum-told3 .given .1) (c .before .before .before .before .read-elements2 .ensures) in
+    let c₄ = c .before .before .before .before in
+    let c₉ = c₄ .before .before .before .before .before in
+    let c₁₅ = c₉ .before .before .before .before .before .before in
+    let a = c₁₅ .before .before .before .before .before .before .before .args in
+    let w =
+    as-elements (a .header .width) 512 (a .write .now) (c₁₅ .read-elements .last .1 .1 .1 .0) (c₁₅ .read-elements .result)
+    (Value (c₉ .before .before .w .given .0 .0)) (c₉ .before .before .w .given .1) (c₁₅ .read-elements .ensures) in
+    let n = sym (c₉ .read-count .ensures) ∙ ap numberAnswer (c₄ .before .before .before .n .given .1) in
+    let v =
+    as-elements 32 8000 (a .script .now) (c₄ .read-elements2 .last .1 .1 .1 .0) (c₄ .read-elements2 .result) Bad
+    (c .enum-told3 .given .1) (c₄ .read-elements2 .ensures) in
     rw (w .1, n, v)
-
-same-length-5 : tie.Need-same-length-5
-same-length-5 c = search needs
-
-same-length-6 : tie.Need-same-length-6
-same-length-6 c = search needs
 
 returns-4 : tie.Need-returns-4
 returns-4 c =
-    let a = c .before .before .before .before .before .before .before .before .before .before .before .before .before .before .before .before .before .before .before .before .before .before .before .args in
-    let w = as-elements (a .header .width) 512 (a .write .now) (c .before .before .before .before .before .before .before .before .before .before .before .before .before .before .before .before .read-elements .last .1 .1 .1 .0) (c .before .before .before .before .before .before .before .before .before .before .before .before .before .before .before .before .read-elements .result) (Value (c .before .before .before .before .before .before .before .before .before .before .before .before .w .given .0 .0)) (c .before .before .before .before .before .before .before .before .before .before .before .before .w .given .1) (c .before .before .before .before .before .before .before .before .before .before .before .before .before .before .before .before .read-elements .ensures) in
-    let n = sym (c .before .before .before .before .before .before .before .before .before .before .read-count .ensures) ∙ ap numberAnswer (c .before .before .before .before .before .before .before .before .n .given .1) in
-    let v = as-elements 32 8000 (a .script .now) (c .before .before .before .before .before .read-elements2 .last .1 .1 .1 .0) (c .before .before .before .before .before .read-elements2 .result) (Value (c .before .v .given .0 .0)) (c .before .v .given .1) (c .before .before .before .before .before .read-elements2 .ensures) in
-    (w .0, at-most 512 (c .before .before .before .before .before .before .before .before .n .given .0 .0) (count (a .read .now)) n, v .0, rw (w .1, n, v .1))
+    let c₅ = c .before .before .before .before .before in
+    let c₁₀ = c₅ .before .before .before .before .before in
+    let c₁₆ = c₁₀ .before .before .before .before .before .before in
+    let a = c₁₆ .before .before .before .before .before .before .before .args in
+    let w =
+    as-elements (a .header .width) 512 (a .write .now) (c₁₆ .read-elements .last .1 .1 .1 .0) (c₁₆ .read-elements .result)
+    (Value (c₁₀ .before .before .w .given .0 .0)) (c₁₀ .before .before .w .given .1) (c₁₆ .read-elements .ensures) in
+    let n = sym (c₁₀ .read-count .ensures) ∙ ap numberAnswer (c₅ .before .before .before .n .given .1) in
+    let v =
+    as-elements 32 8000 (a .script .now) (c₅ .read-elements2 .last .1 .1 .1 .0) (c₅ .read-elements2 .result)
+    (Value (c .before .v .given .0 .0)) (c .before .v .given .1) (c₅ .read-elements2 .ensures) in
+    record {
+      writes = w .0;
+      reads = at-most 512 (c₅ .before .before .before .n .given .0 .0) (count (a .read .now)) n;
+      answers = v .0;
+      asks = rw (w .1, n, v .1);
+    }
 
 pub read-rest-spec : {M : Type 1} → statement M
 read-rest-spec =
     tie.close
     (tie.spec
-    read-elements-requires
-    enum-told
-    enum-known-w
-    read-count-requires
-    enum-told-2
-    enum-known-n
-    read-elements-requires-2
-    enum-told-3
-    enum-known-v
-    cast-t20
-    cast-t21
-    cast-t22
-    same-length
+    (λ c κs. search needs)
+    (λ c. search needs)
+    (λ c. search needs)
+    (λ c κs. search needs)
+    (λ c. search needs)
+    (λ c. search needs)
+    (λ c κs. search needs)
+    (λ c. search needs)
+    (λ c. search needs)
+    (λ c. search needs)
+    (λ c. search needs)
+    (λ c. search needs)
+    (λ c. search needs)
     returns
-    same-length-2
+    (λ c. search needs)
     returns-2
-    same-length-3
-    same-length-4
+    (λ c. search needs)
+    (λ c. search needs)
     returns-3
-    same-length-5
-    same-length-6
+    (λ c. search needs)
+    (λ c. search needs)
     returns-4)

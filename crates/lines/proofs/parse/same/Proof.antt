@@ -25,12 +25,6 @@ returns-2 c = let p = c .before .before .args in sym (same-longer (p .a .now) (p
 loop-holds : tie.Need-loop-holds Inv-loop μ-loop
 loop-holds c = (omega arith, refl)
 
-shared-slice-read-if3 : tie.Need-shared-slice-read-if3 Inv-loop μ-loop
-shared-slice-read-if3 c = search needs
-
-shared-slice-read-if3-2 : tie.Need-shared-slice-read-if3-2 Inv-loop μ-loop
-shared-slice-read-if3-2 c = search needs
-
 add-i : tie.Need-add-i Inv-loop μ-loop
 add-i c = omega arith
 
@@ -38,13 +32,22 @@ loop-less : tie.Need-loop-less Inv-loop μ-loop
 loop-less c = omega arith
 
 loop-again : tie.Need-loop-again Inv-loop μ-loop
-loop-again c = let p = c .before .before .before .before .before .before .before .args in let l = c .before .before .before .before .loop in (omega arith, sym (same-more (p .a .now) (p .b .now) (l .i) (omega arith) (omega arith) (c .if3 .taken)) ∙ l .inv .1)
+loop-again c =
+    let p = c .before .before .before .before .before .before .before .args in
+    let l = c .before .before .before .before .loop in
+    (omega arith, sym (same-more (p .a .now) (p .b .now) (l .i) (omega arith) (omega arith) (c .if3 .taken)) ∙ l .inv .1)
 
 returns-3 : tie.Need-returns-3 Inv-loop μ-loop
-returns-3 c = let p = c .before .before .before .before .before .before .before .args in let l = c .before .before .before .before .loop in sym (same-differs (p .a .now) (p .b .now) (l .i) (omega arith) (omega arith) (c .if3 .left)) ∙ l .inv .1
+returns-3 c =
+    let p = c .before .before .before .before .before .before .before .args in
+    let l = c .before .before .before .before .loop in
+    sym (same-differs (p .a .now) (p .b .now) (l .i) (omega arith) (omega arith) (c .if3 .left)) ∙ l .inv .1
 
 returns-4 : tie.Need-returns-4 Inv-loop μ-loop
-returns-4 c = let p = c .before .before .before .before .args in let l = c .before .loop in sym (same-end (p .a .now) (p .b .now) (l .i) (omega arith) (omega arith)) ∙ l .inv .1
+returns-4 c =
+    let p = c .before .before .before .before .args in
+    let l = c .before .loop in
+    sym (same-end (p .a .now) (p .b .now) (l .i) (omega arith) (omega arith)) ∙ l .inv .1
 
 pub same-spec : {M : Type 1} → statement M
 same-spec =
@@ -55,8 +58,8 @@ same-spec =
     returns
     returns-2
     loop-holds
-    shared-slice-read-if3
-    shared-slice-read-if3-2
+    (λ c. search needs)
+    (λ c. search needs)
     add-i
     loop-less
     loop-again

@@ -19,14 +19,14 @@ abbrev μ-loop : tie.MeasureT-loop
 loop-holds : tie.Need-loop-holds Inv-loop μ-loop
 loop-holds c = (omega arith, refl)
 
-shared-slice-read-if1 : tie.Need-shared-slice-read-if1 Inv-loop μ-loop
-shared-slice-read-if1 c = search needs
-
 returns : tie.Need-returns Inv-loop μ-loop
 returns c =
     let a = c .before .before .before .before .args in
-    let l = c .before .before .before .loop in
-    (omega (arith, l .inv .1, up-to-here (a .separator) (a .text .now) (l .n) (c .before .before .loop-test .taken) (c .if1 .taken)), omega arith)
+    let l = c .before .before .before .loop in (
+      omega
+          (arith, l .inv .1, up-to-here (a .separator) (a .text .now) (l .n) (c .before .before .loop-test .taken) (c .if1 .taken)),
+      omega arith,
+    )
 
 add-n : tie.Need-add-n Inv-loop μ-loop
 add-n c = omega arith
@@ -54,7 +54,7 @@ up-to-spec =
     Inv-loop
     μ-loop
     loop-holds
-    shared-slice-read-if1
+    (λ c. search needs)
     returns
     add-n
     loop-less

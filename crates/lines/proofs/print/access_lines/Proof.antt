@@ -13,7 +13,8 @@ use Rattle.lines.proofs.print.access_lines.Statement.{statement}
 use Rattle.lines.proofs.print.access_lines.Tie as tie
 
 abbrev Inv-loop : tie.InvT-loop
-Inv-loop out₀ at log made next₀ i₀ out next i = (i ≤ made) × (length out ≡ length out₀) × (next ≡ at + 14 * i) × (out ≡ written out₀ at (accessLines (take (2 * i) log)))
+Inv-loop out₀ at log made next₀ i₀ out next i =
+    (i ≤ made) × (length out ≡ length out₀) × (next ≡ at + 14 * i) × (out ≡ written out₀ at (accessLines (take (2 * i) log)))
 
 abbrev μ-loop : tie.MeasureT-loop
 μ-loop out₀ at log made next₀ i₀ out next i = made - i
@@ -21,29 +22,10 @@ abbrev μ-loop : tie.MeasureT-loop
 loop-holds : tie.Need-loop-holds Inv-loop μ-loop
 loop-holds c = (omega arith, refl, omega arith, written-nothing (c .before .before .args .out .now) (c .before .before .args .at))
 
-mul-access-line : tie.Need-mul-access-line Inv-loop μ-loop
-mul-access-line c = search needs
-
-mul-access-line-2 : tie.Need-mul-access-line-2 Inv-loop μ-loop
-mul-access-line-2 c = search needs
-
-shared-slice-read-access-line : tie.Need-shared-slice-read-access-line Inv-loop μ-loop
-shared-slice-read-access-line c = search needs
-
-mul-access-line-3 : tie.Need-mul-access-line-3 Inv-loop μ-loop
-mul-access-line-3 c = search needs
-
-add-access-line : tie.Need-add-access-line Inv-loop μ-loop
-add-access-line c = search needs
-
-mul-access-line-4 : tie.Need-mul-access-line-4 Inv-loop μ-loop
-mul-access-line-4 c = search needs
-
-shared-slice-read-access-line-2 : tie.Need-shared-slice-read-access-line-2 Inv-loop μ-loop
-shared-slice-read-access-line-2 c = search needs
-
 access-line-requires : tie.Need-access-line-requires Inv-loop μ-loop
-access-line-requires c κs = let l = c .before .before .before .before .loop in omega (arith, l .inv .1, l .inv .2, c .before .before .before .before .before .before .before .pre .1)
+access-line-requires c κs =
+    let l = c .before .before .before .before .loop in
+    omega (arith, l .inv .1, l .inv .2, c .before .before .before .before .before .before .before .pre .1)
 
 add-i : tie.Need-add-i Inv-loop μ-loop
 add-i c = omega arith
@@ -53,17 +35,22 @@ loop-less c = omega arith
 
 loop-again : tie.Need-loop-again Inv-loop μ-loop
 loop-again c =
-    let a = c .before .before .before .before .before .before .before .before .before .before .args in
-    let l = c .before .before .before .before .before .before .before .loop in
+    let c₇ = c .before .before .before .before .before .before .before in
+    let a = c₇ .before .before .before .args in
+    let l = c₇ .loop in
     let r = c .before .before .access-line in
     let before = accessLines (take (2 * l .i) (a .log .now)) in
-    let place : l .next ≡ a .at + length before = l .inv .2 ∙ ap (λ (m : ℕ). a .at + m) (sym (length-accesses (a .log .now) (l .i) (2 * l .i) refl (omega (arith, c .before .before .before .before .before .before .before .before .before .before .pre .0)))) in
+    let place : l .next ≡ a .at + length before =
+    l .inv .2
+    ∙ ap (λ (m : ℕ). a .at + m)
+    (sym (length-accesses (a .log .now) (l .i) (2 * l .i) refl (omega (arith, c₇ .before .before .before .pre .0)))) in
     let two : 2 * l .i + 2 ≡ 2 * (l .i + 1) = omega arith in (
       omega arith,
       r .kept .0 ∙ l .inv .1,
       omega (arith, r .ensures .0, l .inv .2),
       written-then (a .out .now) (l .out) (r .last .0) (a .at) (l .next) before _ place (l .inv .3) (r .ensures .1)
-          ∙ ap (written (a .out .now) (a .at)) (sym (accesses-more (a .log .now) (l .i) (2 * l .i) refl (omega (arith, c .before .before .before .before .before .before .before .before .before .before .pre .0))))
+          ∙ ap (written (a .out .now) (a .at))
+          (sym (accesses-more (a .log .now) (l .i) (2 * l .i) refl (omega (arith, c₇ .before .before .before .pre .0))))
           ∙ ap (λ (m : ℕ). written (a .out .now) (a .at) (accessLines (take m (a .log .now)))) two,
     )
 
@@ -84,13 +71,13 @@ access-lines-spec =
     Inv-loop
     μ-loop
     loop-holds
-    mul-access-line
-    mul-access-line-2
-    shared-slice-read-access-line
-    mul-access-line-3
-    add-access-line
-    mul-access-line-4
-    shared-slice-read-access-line-2
+    (λ c. search needs)
+    (λ c. search needs)
+    (λ c. search needs)
+    (λ c. search needs)
+    (λ c. search needs)
+    (λ c. search needs)
+    (λ c. search needs)
     access-line-requires
     add-i
     loop-less

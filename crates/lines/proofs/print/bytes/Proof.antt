@@ -15,7 +15,8 @@ use Rattle.lines.proofs.print.bytes.Statement.{statement}
 use Rattle.lines.proofs.print.bytes.Tie as tie
 
 abbrev Inv-loop : tie.InvT-loop
-Inv-loop out₀ at read next₀ i₀ i-end out next i = (i ≤ i-end) × (length out ≡ length out₀) × (next ≡ at + 3 * i) × (out ≡ written out₀ at (elementLines 8 (take i read)))
+Inv-loop out₀ at read next₀ i₀ i-end out next i =
+    (i ≤ i-end) × (length out ≡ length out₀) × (next ≡ at + 3 * i) × (out ≡ written out₀ at (elementLines 8 (take i read)))
 
 abbrev μ-loop : tie.MeasureT-loop
 μ-loop out₀ at read next₀ i₀ i-end out next i = i-end - i
@@ -23,11 +24,10 @@ abbrev μ-loop : tie.MeasureT-loop
 loop-holds : tie.Need-loop-holds Inv-loop μ-loop
 loop-holds c = (omega arith, refl, omega arith, written-nothing (c .before .before .args .out .now) (c .before .before .args .at))
 
-shared-slice-read-byte-line : tie.Need-shared-slice-read-byte-line Inv-loop μ-loop
-shared-slice-read-byte-line c = search needs
-
 byte-line-requires : tie.Need-byte-line-requires Inv-loop μ-loop
-byte-line-requires c κs = let l = c .before .before .before .loop in omega (arith, l .inv .1, l .inv .2, c .before .before .before .before .before .before .pre)
+byte-line-requires c κs =
+    let l = c .before .before .before .loop in
+    omega (arith, l .inv .1, l .inv .2, c .before .before .before .before .before .before .pre)
 
 add-i : tie.Need-add-i Inv-loop μ-loop
 add-i c = omega arith
@@ -37,15 +37,18 @@ loop-less c = omega arith
 
 loop-again : tie.Need-loop-again Inv-loop μ-loop
 loop-again c =
-    let a = c .before .before .before .before .before .before .before .before .before .args in
-    let l = c .before .before .before .before .before .before .loop in
+    let c₆ = c .before .before .before .before .before .before in
+    let a = c₆ .before .before .before .args in
+    let l = c₆ .loop in
     let r = c .before .before .byte-line in
     let before = elementLines 8 (take (l .i) (a .read .now)) in
-    let place : l .next ≡ a .at + length before = l .inv .2 ∙ ap (λ (m : ℕ). a .at + m) (sym (length-elements 8 (a .read .now) (l .i) (omega arith))) in (
+    let place : l .next ≡ a .at + length before =
+    l .inv .2 ∙ ap (λ (m : ℕ). a .at + m) (sym (length-elements 8 (a .read .now) (l .i) (omega arith))) in (
       omega arith,
       r .kept .0 ∙ l .inv .1,
       omega (arith, r .ensures .0, l .inv .2),
-      written-then (a .out .now) (l .out) (r .last .0) (a .at) (l .next) before (elementLine 8 (getD (a .read .now) (l .i) 0)) place (l .inv .3) (r .ensures .1)
+      written-then (a .out .now) (l .out) (r .last .0) (a .at) (l .next) before (elementLine 8 (getD (a .read .now) (l .i) 0))
+          place (l .inv .3) (r .ensures .1)
           ∙ ap (written (a .out .now) (a .at)) (sym (elements-more 8 (a .read .now) (l .i) (omega arith))),
     )
 
@@ -55,8 +58,11 @@ same-length c = c .before .loop .inv .1
 returns : tie.Need-returns Inv-loop μ-loop
 returns c =
     let a = c .before .before .before .before .args in
-    let l = c .before .loop in
-    (omega (arith, l .inv .2), l .inv .3 ∙ ap (λ (t : List ℕ). written (a .out .now) (a .at) (elementLines 8 t)) (take-all (l .i) (a .read .now) (omega arith)))
+    let l = c .before .loop in (
+      omega (arith, l .inv .2),
+      l .inv .3
+          ∙ ap (λ (t : List ℕ). written (a .out .now) (a .at) (elementLines 8 t)) (take-all (l .i) (a .read .now) (omega arith)),
+    )
 
 pub bytes-spec : {M : Type 1} → statement M
 bytes-spec =
@@ -65,7 +71,7 @@ bytes-spec =
     Inv-loop
     μ-loop
     loop-holds
-    shared-slice-read-byte-line
+    (λ c. search needs)
     byte-line-requires
     add-i
     loop-less

@@ -9,15 +9,6 @@ use borrow.Author.Needs.{needs}
 use Rattle.lines.proofs.print.decimal.Statement.{statement}
 use Rattle.lines.proofs.print.decimal.Tie as tie
 
-places-requires : tie.Need-places-requires
-places-requires c κs = search needs
-
-digits-requires : tie.Need-digits-requires
-digits-requires c κs = search needs
-
-same-length : tie.Need-same-length
-same-length c = search needs
-
 returns : tie.Need-returns
 returns c =
     let a = c .before .before .before .before .before .before .args in
@@ -29,4 +20,4 @@ returns c =
     )
 
 pub decimal-spec : {M : Type 1} → statement M
-decimal-spec = tie.close (tie.spec places-requires digits-requires same-length returns)
+decimal-spec = tie.close (tie.spec (λ c κs. search needs) (λ c κs. search needs) (λ c. search needs) returns)

@@ -12,7 +12,8 @@ use Rattle.lines.proofs.print.digits.Statement.{statement}
 use Rattle.lines.proofs.print.digits.Tie as tie
 
 abbrev Inv-loop : tie.InvT-loop
-Inv-loop out₀ at base k n left₀ rest₀ out left rest = (left ≤ k) × (length out ≡ length out₀) × (written out at (digits base left rest) ≡ written out₀ at (digits base k n))
+Inv-loop out₀ at base k n left₀ rest₀ out left rest =
+    (left ≤ k) × (length out ≡ length out₀) × (written out at (digits base left rest) ≡ written out₀ at (digits base k n))
 
 abbrev μ-loop : tie.MeasureT-loop
 μ-loop out₀ at base k n left₀ rest₀ out left rest = left
@@ -20,23 +21,8 @@ abbrev μ-loop : tie.MeasureT-loop
 loop-holds : tie.Need-loop-holds Inv-loop μ-loop
 loop-holds c = (omega arith, refl, refl)
 
-sub-left : tie.Need-sub-left Inv-loop μ-loop
-sub-left c = search needs
-
-rem-glyph : tie.Need-rem-glyph Inv-loop μ-loop
-rem-glyph c = search needs
-
 glyph-requires : tie.Need-glyph-requires Inv-loop μ-loop
 glyph-requires c κs = omega (arith, mod-lt (c .before .loop .rest) (c .before .before .before .pre .0), c .before .before .before .pre .1)
-
-add-out : tie.Need-add-out Inv-loop μ-loop
-add-out c = search needs
-
-slice-write-out : tie.Need-slice-write-out Inv-loop μ-loop
-slice-write-out c = search needs
-
-div-rest : tie.Need-div-rest Inv-loop μ-loop
-div-rest c = search needs
 
 loop-less : tie.Need-loop-less Inv-loop μ-loop
 loop-less c = omega arith
@@ -48,11 +34,10 @@ loop-again c =
     let room : a .at + l .left ≤ length (l .out) = omega (arith, l .inv .1, c .before .before .before .before .pre .2) in (
       omega arith,
       length-set (l .out) (a .at + (l .left - 1)) (c .glyph .result) ∙ l .inv .1,
-      digits-stored (l .out) (a .at) (a .base) (l .left) (l .rest) (c .glyph .result) (c .before .loop-test .taken) room (c .glyph .ensures) ∙ l .inv .2,
+      digits-stored (l .out) (a .at) (a .base) (l .left) (l .rest) (c .glyph .result) (c .before .loop-test .taken)
+          room (c .glyph .ensures)
+          ∙ l .inv .2,
     )
-
-add-result : tie.Need-add-result Inv-loop μ-loop
-add-result c = search needs
 
 same-length : tie.Need-same-length Inv-loop μ-loop
 same-length c = c .before .loop .inv .1
@@ -61,8 +46,12 @@ returns : tie.Need-returns Inv-loop μ-loop
 returns c =
     let a = c .before .before .before .args in
     let l = c .before .loop in
-    let none : l .left ≡ 0 = omega arith in
-    (refl, written-nothing (l .out) (a .at) ∙ ap (λ (m : ℕ). written (l .out) (a .at) (digits (a .base) m (l .rest))) (sym none) ∙ l .inv .2)
+    let none : l .left ≡ 0 = omega arith in (
+      refl,
+      written-nothing (l .out) (a .at)
+          ∙ ap (λ (m : ℕ). written (l .out) (a .at) (digits (a .base) m (l .rest))) (sym none)
+          ∙ l .inv .2,
+    )
 
 pub digits-spec : {M : Type 1} → statement M
 digits-spec =
@@ -71,14 +60,14 @@ digits-spec =
     Inv-loop
     μ-loop
     loop-holds
-    sub-left
-    rem-glyph
+    (λ c. search needs)
+    (λ c. search needs)
     glyph-requires
-    add-out
-    slice-write-out
-    div-rest
+    (λ c. search needs)
+    (λ c. search needs)
+    (λ c. search needs)
     loop-less
     loop-again
-    add-result
+    (λ c. search needs)
     same-length
     returns)

@@ -15,7 +15,8 @@ use Rattle.lines.proofs.print.halves.Statement.{statement}
 use Rattle.lines.proofs.print.halves.Tie as tie
 
 abbrev Inv-loop : tie.InvT-loop
-Inv-loop out₀ at read next₀ i₀ i-end out next i = (i ≤ i-end) × (length out ≡ length out₀) × (next ≡ at + 5 * i) × (out ≡ written out₀ at (elementLines 16 (take i read)))
+Inv-loop out₀ at read next₀ i₀ i-end out next i =
+    (i ≤ i-end) × (length out ≡ length out₀) × (next ≡ at + 5 * i) × (out ≡ written out₀ at (elementLines 16 (take i read)))
 
 abbrev μ-loop : tie.MeasureT-loop
 μ-loop out₀ at read next₀ i₀ i-end out next i = i-end - i
@@ -23,14 +24,10 @@ abbrev μ-loop : tie.MeasureT-loop
 loop-holds : tie.Need-loop-holds Inv-loop μ-loop
 loop-holds c = (omega arith, refl, omega arith, written-nothing (c .before .before .args .out .now) (c .before .before .args .at))
 
-mul-half-line : tie.Need-mul-half-line Inv-loop μ-loop
-mul-half-line c = search needs
-
-shared-slice-read-half-line : tie.Need-shared-slice-read-half-line Inv-loop μ-loop
-shared-slice-read-half-line c = search needs
-
 half-line-requires : tie.Need-half-line-requires Inv-loop μ-loop
-half-line-requires c κs = let l = c .before .before .before .loop in omega (arith, l .inv .1, l .inv .2, c .before .before .before .before .before .before .pre)
+half-line-requires c κs =
+    let l = c .before .before .before .loop in
+    omega (arith, l .inv .1, l .inv .2, c .before .before .before .before .before .before .pre)
 
 add-i : tie.Need-add-i Inv-loop μ-loop
 add-i c = omega arith
@@ -40,15 +37,18 @@ loop-less c = omega arith
 
 loop-again : tie.Need-loop-again Inv-loop μ-loop
 loop-again c =
-    let a = c .before .before .before .before .before .before .before .before .before .args in
-    let l = c .before .before .before .before .before .before .loop in
+    let c₆ = c .before .before .before .before .before .before in
+    let a = c₆ .before .before .before .args in
+    let l = c₆ .loop in
     let r = c .before .before .half-line in
     let before = elementLines 16 (take (l .i) (a .read .now)) in
-    let place : l .next ≡ a .at + length before = l .inv .2 ∙ ap (λ (m : ℕ). a .at + m) (sym (length-elements 16 (a .read .now) (l .i) (omega arith))) in (
+    let place : l .next ≡ a .at + length before =
+    l .inv .2 ∙ ap (λ (m : ℕ). a .at + m) (sym (length-elements 16 (a .read .now) (l .i) (omega arith))) in (
       omega arith,
       r .kept .0 ∙ l .inv .1,
       omega (arith, r .ensures .0, l .inv .2),
-      written-then (a .out .now) (l .out) (r .last .0) (a .at) (l .next) before (elementLine 16 (getD (a .read .now) (l .i) 0)) place (l .inv .3) (r .ensures .1)
+      written-then (a .out .now) (l .out) (r .last .0) (a .at) (l .next) before (elementLine 16 (getD (a .read .now) (l .i) 0))
+          place (l .inv .3) (r .ensures .1)
           ∙ ap (written (a .out .now) (a .at)) (sym (elements-more 16 (a .read .now) (l .i) (omega arith))),
     )
 
@@ -58,8 +58,11 @@ same-length c = c .before .loop .inv .1
 returns : tie.Need-returns Inv-loop μ-loop
 returns c =
     let a = c .before .before .before .before .args in
-    let l = c .before .loop in
-    (omega (arith, l .inv .2), l .inv .3 ∙ ap (λ (t : List ℕ). written (a .out .now) (a .at) (elementLines 16 t)) (take-all (l .i) (a .read .now) (omega arith)))
+    let l = c .before .loop in (
+      omega (arith, l .inv .2),
+      l .inv .3
+          ∙ ap (λ (t : List ℕ). written (a .out .now) (a .at) (elementLines 16 t)) (take-all (l .i) (a .read .now) (omega arith)),
+    )
 
 pub halves-spec : {M : Type 1} → statement M
 halves-spec =
@@ -68,8 +71,8 @@ halves-spec =
     Inv-loop
     μ-loop
     loop-holds
-    mul-half-line
-    shared-slice-read-half-line
+    (λ c. search needs)
+    (λ c. search needs)
     half-line-requires
     add-i
     loop-less

@@ -10,23 +10,16 @@ use borrow.Author.Needs.{needs}
 use Rattle.lines.proofs.print.word_line.Statement.{statement}
 use Rattle.lines.proofs.print.word_line.Tie as tie
 
-digits-requires : tie.Need-digits-requires
-digits-requires c κs = search needs
-
-put-requires : tie.Need-put-requires
-put-requires c κs = search needs
-
-same-length : tie.Need-same-length
-same-length c = search needs
-
 returns : tie.Need-returns
 returns c =
-    let a = c .before .before .before .before .before .before .before .before .before .args in
-    let d = c .before .before .before .before .before .before .digits in
+    let c₆ = c .before .before .before .before .before .before in
+    let a = c₆ .before .before .before .args in
+    let d = c₆ .digits in
     let p = c .before .before .put in (
       omega (arith, d .ensures .0, p .ensures .0),
-      written-then (a .out .now) (d .last .0) (p .last .0) (a .at) (d .result) (digits 16 8 (a .x)) (newline ∷ []) (d .ensures .0 ∙ ap (λ (m : ℕ). a .at + m) (sym (length-digits 16 8 (a .x)))) (d .ensures .1) (p .ensures .1),
+      written-then (a .out .now) (d .last .0) (p .last .0) (a .at) (d .result) (digits 16 8 (a .x)) (newline ∷ [])
+          (d .ensures .0 ∙ ap (λ (m : ℕ). a .at + m) (sym (length-digits 16 8 (a .x)))) (d .ensures .1) (p .ensures .1),
     )
 
 pub word-line-spec : {M : Type 1} → statement M
-word-line-spec = tie.close (tie.spec digits-requires put-requires same-length returns)
+word-line-spec = tie.close (tie.spec (λ c κs. search needs) (λ c κs. search needs) (λ c. search needs) returns)

@@ -4,24 +4,6 @@ use borrow.Author.Needs.{needs}
 use Rattle.machine.proofs.transfer.after_receiving.Statement.{statement}
 use Rattle.machine.proofs.transfer.after_receiving.Tie as tie
 
-poll-answered-requires : tie.Need-poll-answered-requires
-poll-answered-requires c κs = search needs
-
-enum-told : tie.Need-enum-told
-enum-told c = search needs
-
-enum-known-p : tie.Need-enum-known-p
-enum-known-p c = search needs
-
-enum-told-2 : tie.Need-enum-told-2
-enum-told-2 c = search needs
-
-enum-told-3 : tie.Need-enum-told-3
-enum-told-3 c = search needs
-
-send-turn-requires : tie.Need-send-turn-requires
-send-turn-requires c κs = search needs
-
 returns : tie.Need-returns
 returns c = simp (← c .before .before .poll-answered .ensures, c .enum-told .given .1)
 
@@ -38,12 +20,12 @@ pub after-receiving-spec : {M : Type 1} → statement M
 after-receiving-spec =
     tie.close
     (tie.spec
-    poll-answered-requires
-    enum-told
-    enum-known-p
-    enum-told-2
-    enum-told-3
-    send-turn-requires
+    (λ c κs. search needs)
+    (λ c. search needs)
+    (λ c. search needs)
+    (λ c. search needs)
+    (λ c. search needs)
+    (λ c κs. search needs)
     returns
     returns-2
     returns-3

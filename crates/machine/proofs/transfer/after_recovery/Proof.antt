@@ -4,9 +4,6 @@ use borrow.Author.Needs.{needs}
 use Rattle.machine.proofs.transfer.after_recovery.Statement.{statement}
 use Rattle.machine.proofs.transfer.after_recovery.Tie as tie
 
-is-recovered-requires : tie.Need-is-recovered-requires
-is-recovered-requires c κs = search needs
-
 returns : tie.Need-returns
 returns c = simp (← c .before .is-recovered .ensures, c .if1 .taken)
 
@@ -14,4 +11,4 @@ returns-2 : tie.Need-returns-2
 returns-2 c = simp (← c .before .is-recovered .ensures, c .if1 .left)
 
 pub after-recovery-spec : {M : Type 1} → statement M
-after-recovery-spec = tie.close (tie.spec is-recovered-requires returns returns-2)
+after-recovery-spec = tie.close (tie.spec (λ c κs. search needs) returns returns-2)

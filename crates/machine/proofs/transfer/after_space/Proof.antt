@@ -4,21 +4,6 @@ use borrow.Author.Needs.{needs}
 use Rattle.machine.proofs.transfer.after_space.Statement.{statement}
 use Rattle.machine.proofs.transfer.after_space.Tie as tie
 
-poll-answered-requires : tie.Need-poll-answered-requires
-poll-answered-requires c κs = search needs
-
-enum-told : tie.Need-enum-told
-enum-told c = search needs
-
-enum-known-p : tie.Need-enum-known-p
-enum-known-p c = search needs
-
-enum-told-2 : tie.Need-enum-told-2
-enum-told-2 c = search needs
-
-enum-told-3 : tie.Need-enum-told-3
-enum-told-3 c = search needs
-
 returns : tie.Need-returns
 returns c = simp (← c .before .before .poll-answered .ensures, c .enum-told .given .1)
 
@@ -35,11 +20,11 @@ pub after-space-spec : {M : Type 1} → statement M
 after-space-spec =
     tie.close
     (tie.spec
-    poll-answered-requires
-    enum-told
-    enum-known-p
-    enum-told-2
-    enum-told-3
+    (λ c κs. search needs)
+    (λ c. search needs)
+    (λ c. search needs)
+    (λ c. search needs)
+    (λ c. search needs)
     returns
     returns-2
     returns-3

@@ -4,11 +4,8 @@ use borrow.Author.Needs.{needs}
 use Rattle.machine.proofs.transfer.one_sent.Statement.{statement}
 use Rattle.machine.proofs.transfer.one_sent.Tie as tie
 
-counted-requires : tie.Need-counted-requires
-counted-requires c κs = search needs
-
 returns : tie.Need-returns
 returns c = simp (c .counted .ensures)
 
 pub one-sent-spec : {M : Type 1} → statement M
-one-sent-spec = tie.close (tie.spec counted-requires returns)
+one-sent-spec = tie.close (tie.spec (λ c κs. search needs) returns)

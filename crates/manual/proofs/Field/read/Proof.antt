@@ -5,12 +5,6 @@ use borrow.Author.Needs.{needs}
 use Rattle.manual.proofs.Field.read.Statement.{statement}
 use Rattle.manual.proofs.Field.read.Tie as tie
 
-position-requires : tie.Need-position-requires
-position-requires c κs = search needs
-
-width-requires : tie.Need-width-requires
-width-requires c κs = search needs
-
 get-bits-requires : tie.Need-get-bits-requires
 get-bits-requires c κs = rw (c .before .position .ensures, c .width .ensures) (fits (c .before .before .args .self))
 
@@ -18,4 +12,4 @@ returns : tie.Need-returns
 returns c = rw (c .get-bits .ensures, c .before .before .position .ensures, c .before .width .ensures)
 
 pub read-spec : {M : Type 1} → statement M
-read-spec = tie.close (tie.spec position-requires width-requires get-bits-requires returns)
+read-spec = tie.close (tie.spec (λ c κs. search needs) (λ c κs. search needs) get-bits-requires returns)

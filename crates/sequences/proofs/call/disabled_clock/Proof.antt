@@ -15,25 +15,22 @@ use borrow.Author.Needs.{needs}
 use Rattle.sequences.proofs.call.disabled_clock.Statement.{statement}
 use Rattle.sequences.proofs.call.disabled_clock.Tie as tie
 
-entry-move-requires : tie.Need-entry-move-requires
-entry-move-requires c κs = search needs
-
 returns : tie.Need-returns
-returns c = let a = c .before .before .args in c .entry-move .ensures ∙ sym (List·getD-append (disabledEntry (WaitClock (a .clock))) (Write CCR (clockWord (a .clock)) ∷ modify Restore) End (a .place) (c .before .if1 .taken))
-
-as-raw-requires : tie.Need-as-raw-requires
-as-raw-requires c κs = search needs
-
-three-requires : tie.Need-three-requires
-three-requires c κs = search needs
+returns c =
+    let a = c .before .before .args in
+    c .entry-move .ensures
+    ∙ sym
+    (List·getD-append (disabledEntry (WaitClock (a .clock))) (Write CCR (clockWord (a .clock)) ∷ modify Restore) End
+    (a .place) (c .before .if1 .taken))
 
 returns-2 : tie.Need-returns-2
 returns-2 c =
     let a = c .before .before .before .args in
     c .three .ensures
     ∙ ap (λ (w : ℕ). moveAt (Write CCR w ∷ modify Restore) (a .place - 4)) (c .before .as-raw .ensures)
-    ∙ behind (disabledEntry (WaitClock (a .clock))) (Write CCR (clockWord (a .clock)) ∷ modify Restore) (a .place) End (c .before .before .if1 .left)
+    ∙ behind (disabledEntry (WaitClock (a .clock))) (Write CCR (clockWord (a .clock)) ∷ modify Restore) (a .place) End
+    (c .before .before .if1 .left)
 
 pub disabled-clock-spec : {M : Type 1} → statement M
 disabled-clock-spec =
-    tie.close (tie.spec entry-move-requires returns as-raw-requires three-requires returns-2)
+    tie.close (tie.spec (λ c κs. search needs) returns (λ c κs. search needs) (λ c κs. search needs) returns-2)

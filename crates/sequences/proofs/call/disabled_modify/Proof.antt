@@ -14,17 +14,11 @@ use borrow.Author.Needs.{needs}
 use Rattle.sequences.proofs.call.disabled_modify.Statement.{statement}
 use Rattle.sequences.proofs.call.disabled_modify.Tie as tie
 
-entry-move-requires : tie.Need-entry-move-requires
-entry-move-requires c κs = search needs
-
 returns : tie.Need-returns
-returns c = let a = c .before .before .args in c .entry-move .ensures ∙ sym (List·getD-append (disabledEntry Wait) (modify (a .change) ++ modify Restore) End (a .place) (c .before .if1 .taken))
-
-register-requires : tie.Need-register-requires
-register-requires c κs = search needs
-
-four-requires : tie.Need-four-requires
-four-requires c κs = search needs
+returns c =
+    let a = c .before .before .args in
+    c .entry-move .ensures
+    ∙ sym (List·getD-append (disabledEntry Wait) (modify (a .change) ++ modify Restore) End (a .place) (c .before .if1 .taken))
 
 returns-2 : tie.Need-returns-2
 returns-2 c =
@@ -35,4 +29,4 @@ returns-2 c =
 
 pub disabled-modify-spec : {M : Type 1} → statement M
 disabled-modify-spec =
-    tie.close (tie.spec entry-move-requires returns register-requires four-requires returns-2)
+    tie.close (tie.spec (λ c κs. search needs) returns (λ c κs. search needs) (λ c κs. search needs) returns-2)

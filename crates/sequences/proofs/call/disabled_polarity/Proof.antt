@@ -17,20 +17,18 @@ use borrow.Author.Needs.{needs}
 use Rattle.sequences.proofs.call.disabled_polarity.Statement.{statement}
 use Rattle.sequences.proofs.call.disabled_polarity.Tie as tie
 
-entry-move-requires : tie.Need-entry-move-requires
-entry-move-requires c κs = search needs
-
 returns : tie.Need-returns
-returns c = let a = c .before .before .args in c .entry-move .ensures ∙ sym (List·getD-append (disabledEntry Wait) (Keep CFGR1 ∷ modify (Polarity (a .pcs) (a .polarity)) ++ modify Restore) End (a .place) (c .before .if1 .taken))
+returns c =
+    let a = c .before .before .args in
+    c .entry-move .ensures
+    ∙ sym
+    (List·getD-append (disabledEntry Wait) (Keep CFGR1 ∷ modify (Polarity (a .pcs) (a .polarity)) ++ modify Restore) End
+    (a .place) (c .before .if1 .taken))
 
 returns-2 : tie.Need-returns-2
-returns-2 c = let a = c .before .before .args in ap (λ (p : ℕ). moveAt (movesOf (SetChipSelectPolarity (a .pcs) (a .polarity))) p) (sym (c .if2 .taken))
-
-sub-four : tie.Need-sub-four
-sub-four c = search needs
-
-four-requires : tie.Need-four-requires
-four-requires c κs = search needs
+returns-2 c =
+    let a = c .before .before .args in
+    ap (λ (p : ℕ). moveAt (movesOf (SetChipSelectPolarity (a .pcs) (a .polarity))) p) (sym (c .if2 .taken))
 
 returns-3 : tie.Need-returns-3
 returns-3 c =
@@ -42,4 +40,4 @@ returns-3 c =
 
 pub disabled-polarity-spec : {M : Type 1} → statement M
 disabled-polarity-spec =
-    tie.close (tie.spec entry-move-requires returns returns-2 sub-four four-requires returns-3)
+    tie.close (tie.spec (λ c κs. search needs) returns returns-2 (λ c. search needs) (λ c κs. search needs) returns-3)

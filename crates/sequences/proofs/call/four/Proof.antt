@@ -11,14 +11,10 @@ use Rattle.sequences.proofs.call.four.Tie as tie
 returns : tie.Need-returns
 returns c = let a = c .before .args in at-first (a .a) (a .b ∷ a .c ∷ a .d ∷ []) (a .place) End (c .if1 .taken)
 
-sub-three : tie.Need-sub-three
-sub-three c = search needs
-
-three-requires : tie.Need-three-requires
-three-requires c κs = search needs
-
 returns-2 : tie.Need-returns-2
-returns-2 c = let a = c .before .before .args in c .three .ensures ∙ behind-first (a .a) (a .b ∷ a .c ∷ a .d ∷ []) (a .place) End (c .before .if1 .left)
+returns-2 c =
+    let a = c .before .before .args in
+    c .three .ensures ∙ behind-first (a .a) (a .b ∷ a .c ∷ a .d ∷ []) (a .place) End (c .before .if1 .left)
 
 pub four-spec : {M : Type 1} → statement M
-four-spec = tie.close (tie.spec returns sub-three three-requires returns-2)
+four-spec = tie.close (tie.spec returns (λ c. search needs) (λ c κs. search needs) returns-2)

@@ -13,17 +13,18 @@ use borrow.Author.Needs.{needs}
 use Rattle.sequences.proofs.call.init_move.Statement.{statement}
 use Rattle.sequences.proofs.call.init_move.Tie as tie
 
-reset-move-requires : tie.Need-reset-move-requires
-reset-move-requires c κs = search needs
-
 returns : tie.Need-returns
-returns c = c .reset-move .ensures ∙ sym (List·getD-append resetMoves (Set Controller ∷ Size Tx ∷ Set HalfFull ∷ Set (Enable true) ∷ []) End (c .before .before .args .place) (c .before .if1 .taken))
-
-four-requires : tie.Need-four-requires
-four-requires c κs = search needs
+returns c =
+    c .reset-move .ensures
+    ∙ sym
+    (List·getD-append resetMoves (Set Controller ∷ Size Tx ∷ Set HalfFull ∷ Set (Enable true) ∷ []) End
+    (c .before .before .args .place) (c .before .if1 .taken))
 
 returns-2 : tie.Need-returns-2
-returns-2 c = c .four .ensures ∙ behind resetMoves (Set Controller ∷ Size Tx ∷ Set HalfFull ∷ Set (Enable true) ∷ []) (c .before .before .args .place) End (c .before .if1 .left)
+returns-2 c =
+    c .four .ensures
+    ∙ behind resetMoves (Set Controller ∷ Size Tx ∷ Set HalfFull ∷ Set (Enable true) ∷ []) (c .before .before .args .place)
+    End (c .before .if1 .left)
 
 pub init-move-spec : {M : Type 1} → statement M
-init-move-spec = tie.close (tie.spec reset-move-requires returns four-requires returns-2)
+init-move-spec = tie.close (tie.spec (λ c κs. search needs) returns (λ c κs. search needs) returns-2)

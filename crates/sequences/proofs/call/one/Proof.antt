@@ -7,11 +7,8 @@ use borrow.Author.Needs.{needs}
 use Rattle.sequences.proofs.call.one.Statement.{statement}
 use Rattle.sequences.proofs.call.one.Tie as tie
 
-returns : tie.Need-returns
-returns c = search needs
-
 returns-2 : tie.Need-returns-2
 returns-2 c = behind-first (c .before .args .a) [] (c .before .args .place) End (c .if1 .left)
 
 pub one-spec : {M : Type 1} → statement M
-one-spec = tie.close (tie.spec returns returns-2)
+one-spec = tie.close (tie.spec (λ c. search needs) returns-2)

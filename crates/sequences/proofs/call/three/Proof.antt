@@ -11,14 +11,10 @@ use Rattle.sequences.proofs.call.three.Tie as tie
 returns : tie.Need-returns
 returns c = let a = c .before .args in at-first (a .a) (a .b ∷ a .c ∷ []) (a .place) End (c .if1 .taken)
 
-sub-two : tie.Need-sub-two
-sub-two c = search needs
-
-two-requires : tie.Need-two-requires
-two-requires c κs = search needs
-
 returns-2 : tie.Need-returns-2
-returns-2 c = let a = c .before .before .args in c .two .ensures ∙ behind-first (a .a) (a .b ∷ a .c ∷ []) (a .place) End (c .before .if1 .left)
+returns-2 c =
+    let a = c .before .before .args in
+    c .two .ensures ∙ behind-first (a .a) (a .b ∷ a .c ∷ []) (a .place) End (c .before .if1 .left)
 
 pub three-spec : {M : Type 1} → statement M
-three-spec = tie.close (tie.spec returns sub-two two-requires returns-2)
+three-spec = tie.close (tie.spec returns (λ c. search needs) (λ c κs. search needs) returns-2)

@@ -8,17 +8,8 @@ use borrow.Author.Needs.{needs}
 use Rattle.sequences.proofs.call.two.Statement.{statement}
 use Rattle.sequences.proofs.call.two.Tie as tie
 
-returns : tie.Need-returns
-returns c = search needs
-
-sub-one : tie.Need-sub-one
-sub-one c = search needs
-
-one-requires : tie.Need-one-requires
-one-requires c κs = search needs
-
 returns-2 : tie.Need-returns-2
 returns-2 c = let a = c .before .before .args in c .one .ensures ∙ behind-first (a .a) (a .b ∷ []) (a .place) End (c .before .if1 .left)
 
 pub two-spec : {M : Type 1} → statement M
-two-spec = tie.close (tie.spec returns sub-one one-requires returns-2)
+two-spec = tie.close (tie.spec (λ c. search needs) (λ c. search needs) (λ c κs. search needs) returns-2)

@@ -4,11 +4,8 @@ use borrow.Author.Needs.{needs}
 use Rattle.sequences.proofs.recovery.is_recovered.Statement.{statement}
 use Rattle.sequences.proofs.recovery.is_recovered.Tie as tie
 
-place-requires : tie.Need-place-requires
-place-requires c κs = search needs
-
 returns : tie.Need-returns
 returns c = simp (c .place .ensures)
 
 pub is-recovered-spec : {M : Type 1} → statement M
-is-recovered-spec = tie.close (tie.spec place-requires returns)
+is-recovered-spec = tie.close (tie.spec (λ c κs. search needs) returns)

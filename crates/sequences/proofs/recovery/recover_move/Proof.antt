@@ -12,9 +12,6 @@ use borrow.Author.Needs.{needs}
 use Rattle.sequences.proofs.recovery.recover_move.Statement.{statement}
 use Rattle.sequences.proofs.recovery.recover_move.Tie as tie
 
-recovery-move-requires : tie.Need-recovery-move-requires
-recovery-move-requires c κs = search needs
-
 returns : tie.Need-returns
 returns c = c .recovery-move .ensures ∙ within recovery (c .before .before .args .place) (Write SR (cleared errors)) End (omega arith)
 
@@ -22,4 +19,4 @@ returns-2 : tie.Need-returns-2
 returns-2 c = sym (List·getD-eq-default recovery End {n = c .before .args .place} (c .if1 .left))
 
 pub recover-move-spec : {M : Type 1} → statement M
-recover-move-spec = tie.close (tie.spec recovery-move-requires returns returns-2)
+recover-move-spec = tie.close (tie.spec (λ c κs. search needs) returns returns-2)

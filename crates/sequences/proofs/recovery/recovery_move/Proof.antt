@@ -49,9 +49,6 @@ returns-5 c = ap recoveryMove (sym (c .if5 .taken))
 returns-6 : tie.Need-returns-6
 returns-6 c = ap recoveryMove (sym (c .if6 .taken))
 
-returns-7 : tie.Need-returns-7
-returns-7 c = search needs
-
 returns-8 : tie.Need-returns-8
 returns-8 c = ap recoveryMove (sym (c .if8 .taken))
 
@@ -63,9 +60,6 @@ returns-10 c = ap recoveryMove (sym (c .if10 .taken))
 
 returns-11 : tie.Need-returns-11
 returns-11 c = ap recoveryMove (sym (c .if11 .taken))
-
-returns-12 : tie.Need-returns-12
-returns-12 c = search needs
 
 returns-13 : tie.Need-returns-13
 returns-13 c = ap recoveryMove (sym (c .if13 .taken))
@@ -111,29 +105,35 @@ returns-26 c = ap recoveryMove (sym (c .if26 .taken))
 
 returns-27 : tie.Need-returns-27
 returns-27 c =
-    let p = c .before .before .before .before .before .before .before .before .before .before .before .before .before .before .before .before .before .before .before .before .before .before .before .before .before .before .args .place in
-    let a1 = above 0 p (omega arith) (c .before .before .before .before .before .before .before .before .before .before .before .before .before .before .before .before .before .before .before .before .before .before .before .before .before .if1 .left) in
-    let a2 = above 1 p a1 (c .before .before .before .before .before .before .before .before .before .before .before .before .before .before .before .before .before .before .before .before .before .before .before .before .if2 .left) in
-    let a3 = above 2 p a2 (c .before .before .before .before .before .before .before .before .before .before .before .before .before .before .before .before .before .before .before .before .before .before .before .if3 .left) in
-    let a4 = above 3 p a3 (c .before .before .before .before .before .before .before .before .before .before .before .before .before .before .before .before .before .before .before .before .before .before .if4 .left) in
-    let a5 = above 4 p a4 (c .before .before .before .before .before .before .before .before .before .before .before .before .before .before .before .before .before .before .before .before .before .if5 .left) in
-    let a6 = above 5 p a5 (c .before .before .before .before .before .before .before .before .before .before .before .before .before .before .before .before .before .before .before .before .if6 .left) in
-    let a7 = above 6 p a6 (c .before .before .before .before .before .before .before .before .before .before .before .before .before .before .before .before .before .before .before .if7 .left) in
-    let a8 = above 7 p a7 (c .before .before .before .before .before .before .before .before .before .before .before .before .before .before .before .before .before .before .if8 .left) in
-    let a9 = above 8 p a8 (c .before .before .before .before .before .before .before .before .before .before .before .before .before .before .before .before .before .if9 .left) in
-    let a10 = above 9 p a9 (c .before .before .before .before .before .before .before .before .before .before .before .before .before .before .before .before .if10 .left) in
-    let a11 = above 10 p a10 (c .before .before .before .before .before .before .before .before .before .before .before .before .before .before .before .if11 .left) in
-    let a12 = above 11 p a11 (c .before .before .before .before .before .before .before .before .before .before .before .before .before .before .if12 .left) in
-    let a13 = above 12 p a12 (c .before .before .before .before .before .before .before .before .before .before .before .before .before .if13 .left) in
-    let a14 = above 13 p a13 (c .before .before .before .before .before .before .before .before .before .before .before .before .if14 .left) in
-    let a15 = above 14 p a14 (c .before .before .before .before .before .before .before .before .before .before .before .if15 .left) in
-    let a16 = above 15 p a15 (c .before .before .before .before .before .before .before .before .before .before .if16 .left) in
-    let a17 = above 16 p a16 (c .before .before .before .before .before .before .before .before .before .if17 .left) in
-    let a18 = above 17 p a17 (c .before .before .before .before .before .before .before .before .if18 .left) in
-    let a19 = above 18 p a18 (c .before .before .before .before .before .before .before .if19 .left) in
-    let a20 = above 19 p a19 (c .before .before .before .before .before .before .if20 .left) in
-    let a21 = above 20 p a20 (c .before .before .before .before .before .if21 .left) in
-    let a22 = above 21 p a21 (c .before .before .before .before .if22 .left) in
+    let c₄ = c .before .before .before .before in
+    let c₈ = c₄ .before .before .before .before in
+    let c₁₂ = c₈ .before .before .before .before in
+    let c₁₆ = c₁₂ .before .before .before .before in
+    let c₂₀ = c₁₆ .before .before .before .before in
+    let c₂₄ = c₂₀ .before .before .before .before in
+    let p = c₂₄ .before .before .args .place in
+    let a1 = above 0 p (omega arith) (c₂₄ .before .if1 .left) in
+    let a2 = above 1 p a1 (c₂₄ .if2 .left) in
+    let a3 = above 2 p a2 (c₂₀ .before .before .before .if3 .left) in
+    let a4 = above 3 p a3 (c₂₀ .before .before .if4 .left) in
+    let a5 = above 4 p a4 (c₂₀ .before .if5 .left) in
+    let a6 = above 5 p a5 (c₂₀ .if6 .left) in
+    let a7 = above 6 p a6 (c₁₆ .before .before .before .if7 .left) in
+    let a8 = above 7 p a7 (c₁₆ .before .before .if8 .left) in
+    let a9 = above 8 p a8 (c₁₆ .before .if9 .left) in
+    let a10 = above 9 p a9 (c₁₆ .if10 .left) in
+    let a11 = above 10 p a10 (c₁₂ .before .before .before .if11 .left) in
+    let a12 = above 11 p a11 (c₁₂ .before .before .if12 .left) in
+    let a13 = above 12 p a12 (c₁₂ .before .if13 .left) in
+    let a14 = above 13 p a13 (c₁₂ .if14 .left) in
+    let a15 = above 14 p a14 (c₈ .before .before .before .if15 .left) in
+    let a16 = above 15 p a15 (c₈ .before .before .if16 .left) in
+    let a17 = above 16 p a16 (c₈ .before .if17 .left) in
+    let a18 = above 17 p a17 (c₈ .if18 .left) in
+    let a19 = above 18 p a18 (c₄ .before .before .before .if19 .left) in
+    let a20 = above 19 p a19 (c₄ .before .before .if20 .left) in
+    let a21 = above 20 p a20 (c₄ .before .if21 .left) in
+    let a22 = above 21 p a21 (c₄ .if22 .left) in
     let a23 = above 22 p a22 (c .before .before .before .if23 .left) in
     let a24 = above 23 p a23 (c .before .before .if24 .left) in
     let a25 = above 24 p a24 (c .before .if25 .left) in
@@ -150,12 +150,12 @@ recovery-move-spec =
     returns-4
     returns-5
     returns-6
-    returns-7
+    (λ c. search needs)
     returns-8
     returns-9
     returns-10
     returns-11
-    returns-12
+    (λ c. search needs)
     returns-13
     returns-14
     returns-15

@@ -19,14 +19,8 @@ in-recovery (suc (suc (suc (suc (suc zero))))) h = refl
 in-recovery (suc (suc (suc (suc (suc (suc zero)))))) h = refl
 in-recovery (suc (suc (suc (suc (suc (suc (suc p))))))) h = absurd (omega arith)
 
-add-recovery-move : tie.Need-add-recovery-move
-add-recovery-move c = search needs
-
-recovery-move-requires : tie.Need-recovery-move-requires
-recovery-move-requires c κs = search needs
-
 returns : tie.Need-returns
 returns c = c .recovery-move .ensures ∙ in-recovery (c .before .args .place) (c .before .pre)
 
 pub reset-move-spec : {M : Type 1} → statement M
-reset-move-spec = tie.close (tie.spec add-recovery-move recovery-move-requires returns)
+reset-move-spec = tie.close (tie.spec (λ c. search needs) (λ c κs. search needs) returns)

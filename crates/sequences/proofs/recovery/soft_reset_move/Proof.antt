@@ -12,14 +12,14 @@ use borrow.Author.Needs.{needs}
 use Rattle.sequences.proofs.recovery.soft_reset_move.Statement.{statement}
 use Rattle.sequences.proofs.recovery.soft_reset_move.Tie as tie
 
-recovery-move-requires : tie.Need-recovery-move-requires
-recovery-move-requires c κs = search needs
-
 returns : tie.Need-returns
-returns c = c .recovery-move .ensures ∙ within recovery (c .before .before .args .place) (Write SR (cleared errors)) End (omega arith) ∙ List·getD-append softReset (clearStatus errors) End (c .before .before .args .place) (omega arith)
+returns c =
+    c .recovery-move .ensures
+    ∙ within recovery (c .before .before .args .place) (Write SR (cleared errors)) End (omega arith)
+    ∙ List·getD-append softReset (clearStatus errors) End (c .before .before .args .place) (omega arith)
 
 returns-2 : tie.Need-returns-2
 returns-2 c = sym (List·getD-eq-default softReset End {n = c .before .args .place} (c .if1 .left))
 
 pub soft-reset-move-spec : {M : Type 1} → statement M
-soft-reset-move-spec = tie.close (tie.spec recovery-move-requires returns returns-2)
+soft-reset-move-spec = tie.close (tie.spec (λ c κs. search needs) returns returns-2)

@@ -8,16 +8,10 @@ use borrow.Author.Needs.{needs}
 use Rattle.sequences.proofs.sequence.size.Statement.{statement}
 use Rattle.sequences.proofs.sequence.size.Tie as tie
 
-least-requires : tie.Need-least-requires
-least-requires c κs = search needs
-
-shl-result : tie.Need-shl-result
-shl-result c = search needs
-
 returns : tie.Need-returns
 returns c =
     let l : c .least .result < 32 = omega (arith, c .least .ensures) in
     (one-shl (c .least .result) l ∙ ap (λ (k : ℕ). 2 ^ k) (c .least .ensures), mask-pos (c .least .result) l)
 
 pub size-spec : {M : Type 1} → statement M
-size-spec = tie.close (tie.spec least-requires shl-result returns)
+size-spec = tie.close (tie.spec (λ c κs. search needs) (λ c. search needs) returns)

@@ -4,12 +4,6 @@ use borrow.Author.Needs.{needs}
 use Rattle.sequences.proofs.sequence.water.Statement.{statement}
 use Rattle.sequences.proofs.sequence.water.Tie as tie
 
-enum-told : tie.Need-enum-told
-enum-told c = search needs
-
-enum-told-2 : tie.Need-enum-told-2
-enum-told-2 c = search needs
-
 returns : tie.Need-returns
 returns c = simp (c .enum-told .given .1)
 
@@ -17,4 +11,4 @@ returns-2 : tie.Need-returns-2
 returns-2 c = simp (c .enum-told2 .given .1)
 
 pub water-spec : {M : Type 1} → statement M
-water-spec = tie.close (tie.spec enum-told enum-told-2 returns returns-2)
+water-spec = tie.close (tie.spec (λ c. search needs) (λ c. search needs) returns returns-2)

@@ -4,17 +4,8 @@ use borrow.Author.Needs.{needs}
 use Rattle.sequences.proofs.sequence.with_polarity.Statement.{statement}
 use Rattle.sequences.proofs.sequence.with_polarity.Tie as tie
 
-number-requires : tie.Need-number-requires
-number-requires c κs = search needs
-
-pcspol-requires : tie.Need-pcspol-requires
-pcspol-requires c κs = search needs
-
-set-bit-requires : tie.Need-set-bit-requires
-set-bit-requires c κs = search needs
-
 returns : tie.Need-returns
 returns c = simp (c .set-bit .ensures, c .before .pcspol .ensures, c .before .before .number .ensures .0)
 
 pub with-polarity-spec : {M : Type 1} → statement M
-with-polarity-spec = tie.close (tie.spec number-requires pcspol-requires set-bit-requires returns)
+with-polarity-spec = tie.close (tie.spec (λ c κs. search needs) (λ c κs. search needs) (λ c κs. search needs) returns)

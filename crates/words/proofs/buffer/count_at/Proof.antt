@@ -13,9 +13,6 @@ past p total i h l = rw (mul-comm p i) (div-lt-iff-lt-mul h .0 l)
 inside : (p total i : ℕ) → 0 < p → i ≤ total / p → p * i ≤ total
 inside p total i h l = rw (mul-comm p i) (le-div-iff-mul-le h .0 l)
 
-div-if1 : tie.Need-div-if1
-div-if1 c = search needs
-
 returns : tie.Need-returns
 returns c = let a = c .before .args in omega (arith, past (a .per-word) (a .total) (a .i) (omega arith) (c .if1 .taken))
 
@@ -25,11 +22,5 @@ mul-min c = let a = c .before .args in omega (arith, inside (a .per-word) (a .to
 sub-min : tie.Need-sub-min
 sub-min c = let a = c .before .args in inside (a .per-word) (a .total) (a .i) (omega arith) (c .if1 .left)
 
-min-requires : tie.Need-min-requires
-min-requires c κs = search needs
-
-returns-2 : tie.Need-returns-2
-returns-2 c = search needs
-
 pub count-at-spec : {M : Type 1} → statement M
-count-at-spec = tie.close (tie.spec div-if1 returns mul-min sub-min min-requires returns-2)
+count-at-spec = tie.close (tie.spec (λ c. search needs) returns mul-min sub-min (λ c κs. search needs) (λ c. search needs))

@@ -9,12 +9,6 @@ use Rattle.words.proofs.buffer.low.Tie as tie
 returns : tie.Need-returns
 returns c = rw (c .if1 .taken) (omega arith)
 
-cast-result : tie.Need-cast-result
-cast-result c = search needs
-
-shl-result : tie.Need-shl-result
-shl-result c = search needs
-
 sub-result : tie.Need-sub-result
 sub-result c = mask-pos (c .before .args .n) (omega arith)
 
@@ -22,4 +16,4 @@ returns-2 : tie.Need-returns-2
 returns-2 c = low-bits (c .before .args .word) (c .before .args .n) (omega arith)
 
 pub low-spec : {M : Type 1} → statement M
-low-spec = tie.close (tie.spec returns cast-result shl-result sub-result returns-2)
+low-spec = tie.close (tie.spec returns (λ c. search needs) (λ c. search needs) sub-result returns-2)

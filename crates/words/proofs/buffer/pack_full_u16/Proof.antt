@@ -14,7 +14,8 @@ use Rattle.words.proofs.buffer.pack_full_u16.Statement.{statement}
 use Rattle.words.proofs.buffer.pack_full_u16.Tie as tie
 
 abbrev Inv-loop : tie.InvT-loop
-Inv-loop order xs n words₀ i₀ words i = (i ≤ n) × (length words ≡ length words₀) × (words ≡ laid (tabulate i (wordAt order 16 (2 * n) xs)) words₀)
+Inv-loop order xs n words₀ i₀ words i =
+    (i ≤ n) × (length words ≡ length words₀) × (words ≡ laid (tabulate i (wordAt order 16 (2 * n) xs)) words₀)
 
 abbrev μ-loop : tie.MeasureT-loop
 μ-loop order xs n words₀ i₀ words i = n - i
@@ -40,9 +41,6 @@ mul-full-u16-2 c = omega arith
 shared-slice-read-full-u16-2 : tie.Need-shared-slice-read-full-u16-2 Inv-loop μ-loop
 shared-slice-read-full-u16-2 c = omega arith
 
-full-u16-requires : tie.Need-full-u16-requires Inv-loop μ-loop
-full-u16-requires c κs = search needs
-
 mul-words : tie.Need-mul-words Inv-loop μ-loop
 mul-words c = omega arith
 
@@ -63,8 +61,14 @@ loop-again c =
     let xs = a .xs .now in
     let at = 2 * l .i in
     let f = wordAt (a .order) 16 (2 * a .n) xs in
-    let word : c .full-u16 .result ≡ f (l .i) = c .full-u16 .ensures ∙ ap (λ (m : ℕ). pack (a .order) 16 (getD xs m 0 ∷ getD xs (at + 1) 0 ∷ [])) (sym (add-zero at)) ∙ word-whole (a .order) 16 (2 * a .n) (l .i) at xs refl (omega arith) (omega arith) in
-    (omega arith, length-set (l .words) (l .i) (c .full-u16 .result) ∙ l .inv .1, store-step (l .i) (c .full-u16 .result) f (a .words .now) (l .words) (omega arith) word (l .inv .2))
+    let word : c .full-u16 .result ≡ f (l .i) =
+    c .full-u16 .ensures
+    ∙ ap (λ (m : ℕ). pack (a .order) 16 (getD xs m 0 ∷ getD xs (at + 1) 0 ∷ [])) (sym (add-zero at))
+    ∙ word-whole (a .order) 16 (2 * a .n) (l .i) at xs refl (omega arith) (omega arith) in (
+      omega arith,
+      length-set (l .words) (l .i) (c .full-u16 .result) ∙ l .inv .1,
+      store-step (l .i) (c .full-u16 .result) f (a .words .now) (l .words) (omega arith) word (l .inv .2),
+    )
 
 same-length : tie.Need-same-length Inv-loop μ-loop
 same-length c = c .before .loop .inv .1
@@ -74,7 +78,8 @@ returns c =
     let l = c .before .loop in
     let a = c .before .before .before .before .args in
     let f = wordAt (a .order) 16 (2 * a .n) (a .xs .now) in
-    store-stop (l .i) (wordCount 16 (2 * a .n)) f f (a .words .now) (l .words) (omega arith) (λ (h : l .i < wordCount 16 (2 * a .n)). omega arith) (λ j h. refl) (l .inv .2)
+    store-stop (l .i) (wordCount 16 (2 * a .n)) f f (a .words .now) (l .words) (omega arith)
+    (λ (h : l .i < wordCount 16 (2 * a .n)). omega arith) (λ j h. refl) (l .inv .2)
 
 pub pack-full-u16-spec : {M : Type 1} → statement M
 pack-full-u16-spec =
@@ -89,7 +94,7 @@ pack-full-u16-spec =
     add-full-u16
     mul-full-u16-2
     shared-slice-read-full-u16-2
-    full-u16-requires
+    (λ c κs. search needs)
     mul-words
     slice-write-words
     add-i

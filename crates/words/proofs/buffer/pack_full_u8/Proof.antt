@@ -14,7 +14,8 @@ use Rattle.words.proofs.buffer.pack_full_u8.Statement.{statement}
 use Rattle.words.proofs.buffer.pack_full_u8.Tie as tie
 
 abbrev Inv-loop : tie.InvT-loop
-Inv-loop order xs n words₀ i₀ words i = (i ≤ n) × (length words ≡ length words₀) × (words ≡ laid (tabulate i (wordAt order 8 (4 * n) xs)) words₀)
+Inv-loop order xs n words₀ i₀ words i =
+    (i ≤ n) × (length words ≡ length words₀) × (words ≡ laid (tabulate i (wordAt order 8 (4 * n) xs)) words₀)
 
 abbrev μ-loop : tie.MeasureT-loop
 μ-loop order xs n words₀ i₀ words i = n - i
@@ -46,9 +47,6 @@ add-full-u8-3 c = omega arith
 shared-slice-read-full-u8-4 : tie.Need-shared-slice-read-full-u8-4 Inv-loop μ-loop
 shared-slice-read-full-u8-4 c = omega arith
 
-full-u8-requires : tie.Need-full-u8-requires Inv-loop μ-loop
-full-u8-requires c κs = search needs
-
 mul-words : tie.Need-mul-words Inv-loop μ-loop
 mul-words c = omega arith
 
@@ -69,8 +67,15 @@ loop-again c =
     let xs = a .xs .now in
     let at = 4 * l .i in
     let f = wordAt (a .order) 8 (4 * a .n) xs in
-    let word : c .full-u8 .result ≡ f (l .i) = c .full-u8 .ensures ∙ ap (λ (m : ℕ). pack (a .order) 8 (getD xs m 0 ∷ getD xs (at + 1) 0 ∷ getD xs (at + 2) 0 ∷ getD xs (at + 3) 0 ∷ [])) (sym (add-zero at)) ∙ word-whole (a .order) 8 (4 * a .n) (l .i) at xs refl (omega arith) (omega arith) in
-    (omega arith, length-set (l .words) (l .i) (c .full-u8 .result) ∙ l .inv .1, store-step (l .i) (c .full-u8 .result) f (a .words .now) (l .words) (omega arith) word (l .inv .2))
+    let word : c .full-u8 .result ≡ f (l .i) =
+    c .full-u8 .ensures
+    ∙ ap (λ (m : ℕ). pack (a .order) 8 (getD xs m 0 ∷ getD xs (at + 1) 0 ∷ getD xs (at + 2) 0 ∷ getD xs (at + 3) 0 ∷ []))
+    (sym (add-zero at))
+    ∙ word-whole (a .order) 8 (4 * a .n) (l .i) at xs refl (omega arith) (omega arith) in (
+      omega arith,
+      length-set (l .words) (l .i) (c .full-u8 .result) ∙ l .inv .1,
+      store-step (l .i) (c .full-u8 .result) f (a .words .now) (l .words) (omega arith) word (l .inv .2),
+    )
 
 same-length : tie.Need-same-length Inv-loop μ-loop
 same-length c = c .before .loop .inv .1
@@ -80,7 +85,8 @@ returns c =
     let l = c .before .loop in
     let a = c .before .before .before .before .args in
     let f = wordAt (a .order) 8 (4 * a .n) (a .xs .now) in
-    store-stop (l .i) (wordCount 8 (4 * a .n)) f f (a .words .now) (l .words) (omega arith) (λ (h : l .i < wordCount 8 (4 * a .n)). omega arith) (λ j h. refl) (l .inv .2)
+    store-stop (l .i) (wordCount 8 (4 * a .n)) f f (a .words .now) (l .words) (omega arith)
+    (λ (h : l .i < wordCount 8 (4 * a .n)). omega arith) (λ j h. refl) (l .inv .2)
 
 pub pack-full-u8-spec : {M : Type 1} → statement M
 pack-full-u8-spec =
@@ -97,7 +103,7 @@ pack-full-u8-spec =
     shared-slice-read-full-u8-3
     add-full-u8-3
     shared-slice-read-full-u8-4
-    full-u8-requires
+    (λ c κs. search needs)
     mul-words
     slice-write-words
     add-i

@@ -13,7 +13,10 @@ use Rattle.words.proofs.buffer.pack_rest_u8.Statement.{statement}
 use Rattle.words.proofs.buffer.pack_rest_u8.Tie as tie
 
 abbrev Inv-loop : tie.InvT-loop
-Inv-loop order xs total from n words₀ i₀ words i = (i ≤ n) × (length words ≡ length words₀) × ((ws : List ℕ) → words₀ ≡ laid (tabulate from (wordAt order 8 total xs)) ws → words ≡ laid (tabulate i (wordAt order 8 total xs)) ws)
+Inv-loop order xs total from n words₀ i₀ words i =
+    (i ≤ n) × (length words ≡ length words₀)
+    × ((ws : List ℕ) → words₀ ≡ laid (tabulate from (wordAt order 8 total xs)) ws
+    → words ≡ laid (tabulate i (wordAt order 8 total xs)) ws)
 
 abbrev μ-loop : tie.MeasureT-loop
 μ-loop order xs total from n words₀ i₀ words i = n - i
@@ -26,9 +29,6 @@ mul-min c = omega arith
 
 sub-min : tie.Need-sub-min Inv-loop μ-loop
 sub-min c = omega arith
-
-min-requires : tie.Need-min-requires Inv-loop μ-loop
-min-requires c κs = search needs
 
 mul-word-u8 : tie.Need-mul-word-u8 Inv-loop μ-loop
 mul-word-u8 c = omega arith
@@ -53,10 +53,14 @@ loop-again c =
     let l = c .before .before .before .loop in
     let a = c .before .before .before .before .before .before .args in
     let f = wordAt (a .order) 8 (a .total) (a .xs .now) in
-    let word : c .word-u8 .result ≡ f (l .i) = c .word-u8 .ensures ∙ ap (λ (n : ℕ). pack (a .order) 8 (filled (dummy 8) n (drop (4 * l .i) (a .xs .now)))) (c .before .min .ensures) in (
+    let word : c .word-u8 .result ≡ f (l .i) =
+    c .word-u8 .ensures
+    ∙ ap (λ (n : ℕ). pack (a .order) 8 (filled (dummy 8) n (drop (4 * l .i) (a .xs .now)))) (c .before .min .ensures) in (
       omega arith,
       length-set (l .words) (l .i) (c .word-u8 .result) ∙ l .inv .1,
-      λ ws e. store-step (l .i) (c .word-u8 .result) f ws (l .words) (omega (arith, ap length e ∙ length-laid (tabulate (a .from) f) ws)) word (l .inv .2 ws e),
+      λ ws e.
+          store-step (l .i) (c .word-u8 .result) f ws (l .words)
+          (omega (arith, ap length e ∙ length-laid (tabulate (a .from) f) ws)) word (l .inv .2 ws e),
     )
 
 same-length : tie.Need-same-length Inv-loop μ-loop
@@ -78,7 +82,7 @@ pack-rest-u8-spec =
     loop-holds
     mul-min
     sub-min
-    min-requires
+    (λ c κs. search needs)
     mul-word-u8
     word-u8-requires
     mul-words

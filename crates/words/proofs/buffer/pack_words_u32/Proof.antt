@@ -12,19 +12,14 @@ use Rattle.words.proofs.buffer.pack_words_u32.Statement.{statement}
 use Rattle.words.proofs.buffer.pack_words_u32.Tie as tie
 
 abbrev Inv-loop : tie.InvT-loop
-Inv-loop xs total words₀ n i₀ words i = (i ≤ n) × (length words ≡ length words₀) × (words ≡ laid (tabulate i (λ (j : ℕ). getD xs j (dummy 32))) words₀)
+Inv-loop xs total words₀ n i₀ words i =
+    (i ≤ n) × (length words ≡ length words₀) × (words ≡ laid (tabulate i (λ (j : ℕ). getD xs j (dummy 32))) words₀)
 
 abbrev μ-loop : tie.MeasureT-loop
 μ-loop xs total words₀ n i₀ words i = n - i
 
-min-requires : tie.Need-min-requires Inv-loop μ-loop
-min-requires c κs = search needs
-
 loop-holds : tie.Need-loop-holds Inv-loop μ-loop
 loop-holds c = (omega arith, refl, refl)
-
-element-u32-requires : tie.Need-element-u32-requires Inv-loop μ-loop
-element-u32-requires c κs = search needs
 
 mul-words : tie.Need-mul-words Inv-loop μ-loop
 mul-words c = omega arith
@@ -41,8 +36,12 @@ loop-less c = omega arith
 loop-again : tie.Need-loop-again Inv-loop μ-loop
 loop-again c =
     let l = c .before .before .loop in
-    let a = c .before .before .before .before .before .before .args in
-    (omega arith, length-set (l .words) (l .i) (c .element-u32 .result) ∙ l .inv .1, store-step (l .i) (c .element-u32 .result) (λ (j : ℕ). getD (a .xs .now) j (dummy 32)) (a .words .now) (l .words) (omega arith) (c .element-u32 .ensures) (l .inv .2))
+    let a = c .before .before .before .before .before .before .args in (
+      omega arith,
+      length-set (l .words) (l .i) (c .element-u32 .result) ∙ l .inv .1,
+      store-step (l .i) (c .element-u32 .result) (λ (j : ℕ). getD (a .xs .now) j (dummy 32)) (a .words .now) (l .words)
+          (omega arith) (c .element-u32 .ensures) (l .inv .2),
+    )
 
 same-length : tie.Need-same-length Inv-loop μ-loop
 same-length c = c .before .loop .inv .1
@@ -51,7 +50,10 @@ returns : tie.Need-returns Inv-loop μ-loop
 returns c =
     let l = c .before .loop in
     let a = c .before .before .before .before .before .args in
-    store-stop (l .i) (wordCount 32 (a .total)) (λ (j : ℕ). getD (a .xs .now) j (dummy 32)) (wordAt (a .order) 32 (a .total) (a .xs .now)) (a .words .now) (l .words) (omega arith) (λ (h : l .i < wordCount 32 (a .total)). omega arith) (λ (j : ℕ) (h : j < wordCount 32 (a .total)). word-32 (a .order) (a .total) j (a .xs .now) (omega arith)) (l .inv .2)
+    store-stop (l .i) (wordCount 32 (a .total)) (λ (j : ℕ). getD (a .xs .now) j (dummy 32))
+    (wordAt (a .order) 32 (a .total) (a .xs .now)) (a .words .now) (l .words) (omega arith)
+    (λ (h : l .i < wordCount 32 (a .total)). omega arith)
+    (λ (j : ℕ) (h : j < wordCount 32 (a .total)). word-32 (a .order) (a .total) j (a .xs .now) (omega arith)) (l .inv .2)
 
 pub pack-words-u32-spec : {M : Type 1} → statement M
 pack-words-u32-spec =
@@ -59,9 +61,9 @@ pack-words-u32-spec =
     (tie.spec
     Inv-loop
     μ-loop
-    min-requires
+    (λ c κs. search needs)
     loop-holds
-    element-u32-requires
+    (λ c κs. search needs)
     mul-words
     slice-write-words
     add-i

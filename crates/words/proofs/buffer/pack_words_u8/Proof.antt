@@ -11,27 +11,6 @@ use borrow.Author.Needs.{needs}
 use Rattle.words.proofs.buffer.pack_words_u8.Statement.{statement}
 use Rattle.words.proofs.buffer.pack_words_u8.Tie as tie
 
-word-count-requires : tie.Need-word-count-requires
-word-count-requires c κs = search needs
-
-min-requires : tie.Need-min-requires
-min-requires c κs = search needs
-
-min-requires-2 : tie.Need-min-requires-2
-min-requires-2 c κs = search needs
-
-min-requires-3 : tie.Need-min-requires-3
-min-requires-3 c κs = search needs
-
-pack-full-u8-requires : tie.Need-pack-full-u8-requires
-pack-full-u8-requires c κs = search needs
-
-pack-rest-u8-requires : tie.Need-pack-rest-u8-requires
-pack-rest-u8-requires c κs = search needs
-
-same-length : tie.Need-same-length
-same-length c = search needs
-
 returns : tie.Need-returns
 returns c =
     let p = c .before .before .before .before .before .before in
@@ -42,18 +21,21 @@ returns c =
     let f = wordAt (a .order) 8 (a .total) (a .xs .now) in
     let count : wordCount 8 (4 * full) ≡ full = omega arith in
     let fits : 4 * full ≤ a .total = omega arith in
-    let first = p .pack-full-u8 .ensures ∙ ap (λ (l : List ℕ). laid l (a .words .now)) (words-prefix (a .order) 8 (a .total) full (a .xs .now) count fits) in
-    store-stop n (wordCount 8 (a .total)) f f (a .words .now) _ (omega arith) (λ (h : n < wordCount 8 (a .total)). omega arith) (λ j h. refl) (c .before .before .pack-rest-u8 .ensures (a .words .now) first)
+    let first =
+    p .pack-full-u8 .ensures
+    ∙ ap (λ (l : List ℕ). laid l (a .words .now)) (words-prefix (a .order) 8 (a .total) full (a .xs .now) count fits) in
+    store-stop n (wordCount 8 (a .total)) f f (a .words .now) _ (omega arith) (λ (h : n < wordCount 8 (a .total)). omega arith)
+    (λ j h. refl) (c .before .before .pack-rest-u8 .ensures (a .words .now) first)
 
 pub pack-words-u8-spec : {M : Type 1} → statement M
 pack-words-u8-spec =
     tie.close
     (tie.spec
-    word-count-requires
-    min-requires
-    min-requires-2
-    min-requires-3
-    pack-full-u8-requires
-    pack-rest-u8-requires
-    same-length
+    (λ c κs. search needs)
+    (λ c κs. search needs)
+    (λ c κs. search needs)
+    (λ c κs. search needs)
+    (λ c κs. search needs)
+    (λ c κs. search needs)
+    (λ c. search needs)
     returns)

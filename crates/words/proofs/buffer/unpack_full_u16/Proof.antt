@@ -13,7 +13,8 @@ use Rattle.words.proofs.buffer.unpack_full_u16.Statement.{statement}
 use Rattle.words.proofs.buffer.unpack_full_u16.Tie as tie
 
 abbrev Inv-loop : tie.InvT-loop
-Inv-loop order words n out₀ i₀ out i = (i ≤ n) × (length out ≡ length out₀) × (out ≡ laid (unpackWords order 16 (2 * n) (take i words)) out₀)
+Inv-loop order words n out₀ i₀ out i =
+    (i ≤ n) × (length out ≡ length out₀) × (out ≡ laid (unpackWords order 16 (2 * n) (take i words)) out₀)
 
 abbrev μ-loop : tie.MeasureT-loop
 μ-loop order words n out₀ i₀ out i = n - i
@@ -21,47 +22,16 @@ abbrev μ-loop : tie.MeasureT-loop
 loop-holds : tie.Need-loop-holds Inv-loop μ-loop
 loop-holds c = (omega arith, refl, refl)
 
-mul-at : tie.Need-mul-at Inv-loop μ-loop
-mul-at c = search needs
-
-mul-spread-u16 : tie.Need-mul-spread-u16 Inv-loop μ-loop
-mul-spread-u16 c = search needs
-
-shared-slice-read-spread-u16 : tie.Need-shared-slice-read-spread-u16 Inv-loop μ-loop
-shared-slice-read-spread-u16 c = search needs
-
-add-spread-u16 : tie.Need-add-spread-u16 Inv-loop μ-loop
-add-spread-u16 c = search needs
-
-mul-spread-u16-2 : tie.Need-mul-spread-u16-2 Inv-loop μ-loop
-mul-spread-u16-2 c = search needs
-
-sub-spread-u16 : tie.Need-sub-spread-u16 Inv-loop μ-loop
-sub-spread-u16 c = search needs
-
-part-spread-u16-start : tie.Need-part-spread-u16-start Inv-loop μ-loop
-part-spread-u16-start c = search needs
-
-part-spread-u16-end : tie.Need-part-spread-u16-end Inv-loop μ-loop
-part-spread-u16-end c = search needs
-
-spread-u16-requires : tie.Need-spread-u16-requires Inv-loop μ-loop
-spread-u16-requires c κs = search needs
-
-add-i : tie.Need-add-i Inv-loop μ-loop
-add-i c = search needs
-
-loop-less : tie.Need-loop-less Inv-loop μ-loop
-loop-less c = search needs
-
 loop-again : tie.Need-loop-again Inv-loop μ-loop
 loop-again c =
+    let c₆ = c .before .before .before .before .before .before in
     let s = c .before .before .spread-u16 in
-    let l = c .before .before .before .before .before .before .loop in
-    let a = c .before .before .before .before .before .before .before .before .before .args in (
+    let l = c₆ .loop in
+    let a = c₆ .before .before .before .args in (
       omega arith,
       same-len-mid (2 * l .i) (2 * l .i + 2 - 2 * l .i) (l .out) (s .last .1 .1 .1 .0) (s .kept .1 .1 .1 .0) ∙ l .inv .1,
-      unpack-step (a .order) 16 (2 * a .n) (l .i) _ (2 * l .i + 2 - 2 * l .i) 2 _ (a .words .now) (a .out .now) _ _ (omega arith) (omega arith) refl (omega arith) refl (l .inv .2) (s .ensures) (λ h. omega arith),
+      unpack-step (a .order) 16 (2 * a .n) (l .i) _ (2 * l .i + 2 - 2 * l .i) 2 _ (a .words .now) (a .out .now) _ _
+          (omega arith) (omega arith) refl (omega arith) refl (l .inv .2) (s .ensures) (λ h. omega arith),
     )
 
 same-length : tie.Need-same-length Inv-loop μ-loop
@@ -81,17 +51,17 @@ unpack-full-u16-spec =
     Inv-loop
     μ-loop
     loop-holds
-    mul-at
-    mul-spread-u16
-    shared-slice-read-spread-u16
-    add-spread-u16
-    mul-spread-u16-2
-    sub-spread-u16
-    part-spread-u16-start
-    part-spread-u16-end
-    spread-u16-requires
-    add-i
-    loop-less
+    (λ c. search needs)
+    (λ c. search needs)
+    (λ c. search needs)
+    (λ c. search needs)
+    (λ c. search needs)
+    (λ c. search needs)
+    (λ c. search needs)
+    (λ c. search needs)
+    (λ c κs. search needs)
+    (λ c. search needs)
+    (λ c. search needs)
     loop-again
     same-length
     returns)

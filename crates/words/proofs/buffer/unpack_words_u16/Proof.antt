@@ -14,23 +14,11 @@ use borrow.Author.Needs.{needs}
 use Rattle.words.proofs.buffer.unpack_words_u16.Statement.{statement}
 use Rattle.words.proofs.buffer.unpack_words_u16.Tie as tie
 
-min-requires : tie.Need-min-requires
-min-requires c κs = search needs
-
-min-requires-2 : tie.Need-min-requires-2
-min-requires-2 c κs = search needs
-
-unpack-full-u16-requires : tie.Need-unpack-full-u16-requires
-unpack-full-u16-requires c κs = search needs
-
 mul-at : tie.Need-mul-at
 mul-at c = omega arith
 
 sub-min : tie.Need-sub-min
 sub-min c = omega arith
-
-min-requires-3 : tie.Need-min-requires-3
-min-requires-3 c κs = search needs
 
 mul-spread-u16 : tie.Need-mul-spread-u16
 mul-spread-u16 c = omega arith
@@ -50,12 +38,6 @@ part-spread-u16-start c = omega arith
 part-spread-u16-end : tie.Need-part-spread-u16-end
 part-spread-u16-end c = omega arith
 
-spread-u16-requires : tie.Need-spread-u16-requires
-spread-u16-requires c κs = search needs
-
-same-length : tie.Need-same-length
-same-length c = search needs
-
 returns : tie.Need-returns
 returns c =
     let s = c .before .before .spread-u16 in
@@ -70,9 +52,6 @@ returns c =
     unpack-step (a .order) 16 (a .total) n _ (length (f .last .1 .1 .1 .0) - 2 * n) (m .result) _ (a .words .now) (a .out .now) _ _
     more (w .1) refl (m .ensures) refl whole (s .ensures) (λ h. absurd (lt-irrefl _ h))
     ∙ unpack-stop (a .order) 16 (a .total) (n + 1) (a .words .now) (a .out .now) (add-one-le more) (λ h. w .3 more)
-
-same-length-2 : tie.Need-same-length-2
-same-length-2 c = search needs
 
 returns-2 : tie.Need-returns-2
 returns-2 c =
@@ -89,20 +68,20 @@ pub unpack-words-u16-spec : {M : Type 1} → statement M
 unpack-words-u16-spec =
     tie.close
     (tie.spec
-    min-requires
-    min-requires-2
-    unpack-full-u16-requires
+    (λ c κs. search needs)
+    (λ c κs. search needs)
+    (λ c κs. search needs)
     mul-at
     sub-min
-    min-requires-3
+    (λ c κs. search needs)
     mul-spread-u16
     shared-slice-read-spread-u16
     mul-spread-u16-2
     sub-spread-u16
     part-spread-u16-start
     part-spread-u16-end
-    spread-u16-requires
-    same-length
+    (λ c κs. search needs)
+    (λ c. search needs)
     returns
-    same-length-2
+    (λ c. search needs)
     returns-2)

@@ -18,12 +18,6 @@ Inv-loop words total out₀ n i₀ out i = (i ≤ n) × (length out ≡ length o
 abbrev μ-loop : tie.MeasureT-loop
 μ-loop words total out₀ n i₀ out i = n - i
 
-min-requires : tie.Need-min-requires Inv-loop μ-loop
-min-requires c κs = search needs
-
-min-requires-2 : tie.Need-min-requires-2 Inv-loop μ-loop
-min-requires-2 c κs = search needs
-
 loop-holds : tie.Need-loop-holds Inv-loop μ-loop
 loop-holds c = (omega arith, refl, refl)
 
@@ -49,8 +43,11 @@ loop-again : tie.Need-loop-again Inv-loop μ-loop
 loop-again c =
     let l = c .before .before .loop in
     let a = c .before .before .before .before .before .before .before .args in
-    let x = getD (a .words .now) (l .i) 0 in
-    (omega arith, length-set (l .out) (l .i) x ∙ l .inv .1, store-step (l .i) x (λ (j : ℕ). getD (a .words .now) j 0) (a .out .now) (l .out) (omega arith) refl (l .inv .2))
+    let x = getD (a .words .now) (l .i) 0 in (
+      omega arith,
+      length-set (l .out) (l .i) x ∙ l .inv .1,
+      store-step (l .i) x (λ (j : ℕ). getD (a .words .now) j 0) (a .out .now) (l .out) (omega arith) refl (l .inv .2),
+    )
 
 same-length : tie.Need-same-length Inv-loop μ-loop
 same-length c = c .before .loop .inv .1
@@ -62,7 +59,10 @@ returns c =
     let f : ℕ → ℕ = λ j. getD (a .words .now) j 0 in
     let m = min (a .total) (length (a .words .now)) in
     store-stop (l .i) m f f (a .out .now) (l .out) (omega arith) (λ (h : l .i < m). omega arith) (λ j h. refl) (l .inv .2)
-    ∙ ap (λ (x : List ℕ). laid x (a .out .now)) (sym (unpack-32 (a .order) (a .total) (a .words .now) (λ j. c .before .before .before .before .before .shared-slice-known .given j .fits)))
+    ∙ ap (λ (x : List ℕ). laid x (a .out .now))
+    (sym
+    (unpack-32 (a .order) (a .total) (a .words .now)
+    (λ j. c .before .before .before .before .before .shared-slice-known .given j .fits)))
 
 pub unpack-words-u32-spec : {M : Type 1} → statement M
 unpack-words-u32-spec =
@@ -70,8 +70,8 @@ unpack-words-u32-spec =
     (tie.spec
     Inv-loop
     μ-loop
-    min-requires
-    min-requires-2
+    (λ c κs. search needs)
+    (λ c κs. search needs)
     loop-holds
     mul-out
     shared-slice-read-out

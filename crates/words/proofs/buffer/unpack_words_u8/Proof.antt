@@ -14,23 +14,11 @@ use borrow.Author.Needs.{needs}
 use Rattle.words.proofs.buffer.unpack_words_u8.Statement.{statement}
 use Rattle.words.proofs.buffer.unpack_words_u8.Tie as tie
 
-min-requires : tie.Need-min-requires
-min-requires c κs = search needs
-
-min-requires-2 : tie.Need-min-requires-2
-min-requires-2 c κs = search needs
-
-unpack-full-u8-requires : tie.Need-unpack-full-u8-requires
-unpack-full-u8-requires c κs = search needs
-
 mul-at : tie.Need-mul-at
 mul-at c = omega arith
 
 sub-min : tie.Need-sub-min
 sub-min c = omega arith
-
-min-requires-3 : tie.Need-min-requires-3
-min-requires-3 c κs = search needs
 
 mul-spread-u8 : tie.Need-mul-spread-u8
 mul-spread-u8 c = omega arith
@@ -47,12 +35,6 @@ part-spread-u8-start c = omega arith
 part-spread-u8-end : tie.Need-part-spread-u8-end
 part-spread-u8-end c = omega arith
 
-spread-u8-requires : tie.Need-spread-u8-requires
-spread-u8-requires c κs = search needs
-
-same-length : tie.Need-same-length
-same-length c = search needs
-
 returns : tie.Need-returns
 returns c =
     let s = c .before .before .spread-u8 in
@@ -67,9 +49,6 @@ returns c =
     unpack-step (a .order) 8 (a .total) n _ (length (f .last .1 .1 .1 .0) - 4 * n) (m .result) _ (a .words .now) (a .out .now) _ _
     more (w .1) refl (m .ensures) refl whole (s .ensures) (λ h. absurd (lt-irrefl _ h))
     ∙ unpack-stop (a .order) 8 (a .total) (n + 1) (a .words .now) (a .out .now) (add-one-le more) (λ h. w .3 more)
-
-same-length-2 : tie.Need-same-length-2
-same-length-2 c = search needs
 
 returns-2 : tie.Need-returns-2
 returns-2 c =
@@ -86,19 +65,19 @@ pub unpack-words-u8-spec : {M : Type 1} → statement M
 unpack-words-u8-spec =
     tie.close
     (tie.spec
-    min-requires
-    min-requires-2
-    unpack-full-u8-requires
+    (λ c κs. search needs)
+    (λ c κs. search needs)
+    (λ c κs. search needs)
     mul-at
     sub-min
-    min-requires-3
+    (λ c κs. search needs)
     mul-spread-u8
     shared-slice-read-spread-u8
     sub-spread-u8
     part-spread-u8-start
     part-spread-u8-end
-    spread-u8-requires
-    same-length
+    (λ c κs. search needs)
+    (λ c. search needs)
     returns
-    same-length-2
+    (λ c. search needs)
     returns-2)

@@ -6,9 +6,6 @@ use borrow.Author.Needs.{needs}
 use Rattle.words.proofs.longer.longer_u16.Statement.{statement}
 use Rattle.words.proofs.longer.longer_u16.Tie as tie
 
-read-is-longer-requires : tie.Need-read-is-longer-requires
-read-is-longer-requires c κs = search needs
-
 returns : tie.Need-returns
 unfolding longer
 returns c = simp (sym (c .before .read-is-longer .ensures) ∙ c .if1 .taken)
@@ -18,4 +15,4 @@ unfolding longer
 returns-2 c = simp (sym (c .before .read-is-longer .ensures) ∙ c .if1 .left)
 
 pub longer-u16-spec : {M : Type 1} → statement M
-longer-u16-spec = tie.close (tie.spec read-is-longer-requires returns returns-2)
+longer-u16-spec = tie.close (tie.spec (λ c κs. search needs) returns returns-2)

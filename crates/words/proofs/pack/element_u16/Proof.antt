@@ -9,12 +9,6 @@ use borrow.Author.Needs.{needs}
 use Rattle.words.proofs.pack.element_u16.Statement.{statement}
 use Rattle.words.proofs.pack.element_u16.Tie as tie
 
-mul-result : tie.Need-mul-result
-mul-result c = search needs
-
-shared-slice-read-result : tie.Need-shared-slice-read-result
-shared-slice-read-result c = search needs
-
 cast-result : tie.Need-cast-result
 cast-result c = omega (arith, c .shared-slice-known .given (c .before .before .args .at))
 
@@ -28,4 +22,4 @@ returns-2 c = let a = c .before .args in (sym (List·getD-eq-default (a .xs .now
 
 pub element-u16-spec : {M : Type 1} → statement M
 element-u16-spec =
-    tie.close (tie.spec mul-result shared-slice-read-result cast-result returns returns-2)
+    tie.close (tie.spec (λ c. search needs) (λ c. search needs) cast-result returns returns-2)

@@ -9,9 +9,6 @@ use borrow.Author.Needs.{needs}
 use Rattle.words.proofs.pack.element_u8.Statement.{statement}
 use Rattle.words.proofs.pack.element_u8.Tie as tie
 
-shared-slice-read-result : tie.Need-shared-slice-read-result
-shared-slice-read-result c = search needs
-
 cast-result : tie.Need-cast-result
 cast-result c = omega (arith, c .shared-slice-known .given (c .before .before .args .at))
 
@@ -24,4 +21,4 @@ returns-2 : tie.Need-returns-2
 returns-2 c = let a = c .before .args in (sym (List·getD-eq-default (a .xs .now) 255 {n = a .at} (c .if1 .left)), lit< tt)
 
 pub element-u8-spec : {M : Type 1} → statement M
-element-u8-spec = tie.close (tie.spec shared-slice-read-result cast-result returns returns-2)
+element-u8-spec = tie.close (tie.spec (λ c. search needs) cast-result returns returns-2)

@@ -8,17 +8,17 @@ use borrow.Author.Needs.{needs}
 use Rattle.words.proofs.pack.full_u16.Statement.{statement}
 use Rattle.words.proofs.pack.full_u16.Tie as tie
 
-enum-told : tie.Need-enum-told
-enum-told c = search needs
-
-enum-told-2 : tie.Need-enum-told-2
-enum-told-2 c = search needs
-
 returns : tie.Need-returns
-returns c = let s = c .before .before in rw (c .enum-told .given .1) (shl-or (s .args .a) (s .args .b) 16 16 (s .fits .a .fits) (s .fits .b .fits) (lit≤ tt) ∙ omega arith)
+returns c =
+    let s = c .before .before in
+    rw (c .enum-told .given .1)
+    (shl-or (s .args .a) (s .args .b) 16 16 (s .fits .a .fits) (s .fits .b .fits) (lit≤ tt) ∙ omega arith)
 
 returns-2 : tie.Need-returns-2
-returns-2 c = let s = c .before .before in rw (c .enum-told2 .given .1) (shl-or (s .args .b) (s .args .a) 16 16 (s .fits .b .fits) (s .fits .a .fits) (lit≤ tt) ∙ omega arith)
+returns-2 c =
+    let s = c .before .before in
+    rw (c .enum-told2 .given .1)
+    (shl-or (s .args .b) (s .args .a) 16 16 (s .fits .b .fits) (s .fits .a .fits) (lit≤ tt) ∙ omega arith)
 
 pub full-u16-spec : {M : Type 1} → statement M
-full-u16-spec = tie.close (tie.spec enum-told enum-told-2 returns returns-2)
+full-u16-spec = tie.close (tie.spec (λ c. search needs) (λ c. search needs) returns returns-2)

@@ -6,18 +6,6 @@ use borrow.Author.Needs.{needs}
 use Rattle.words.proofs.pack.full_u8.Statement.{statement}
 use Rattle.words.proofs.pack.full_u8.Tie as tie
 
-enum-told : tie.Need-enum-told
-enum-told c = search needs
-
-bytes-requires : tie.Need-bytes-requires
-bytes-requires c κs = search needs
-
-enum-told-2 : tie.Need-enum-told-2
-enum-told-2 c = search needs
-
-bytes-requires-2 : tie.Need-bytes-requires-2
-bytes-requires-2 c κs = search needs
-
 returns : tie.Need-returns
 returns c = rw (c .before .enum-told .given .1) (c .bytes .ensures ∙ omega arith)
 
@@ -26,4 +14,4 @@ returns-2 c = rw (c .before .enum-told2 .given .1) (c .bytes2 .ensures ∙ omega
 
 pub full-u8-spec : {M : Type 1} → statement M
 full-u8-spec =
-    tie.close (tie.spec enum-told bytes-requires enum-told-2 bytes-requires-2 returns returns-2)
+    tie.close (tie.spec (λ c. search needs) (λ c κs. search needs) (λ c. search needs) (λ c κs. search needs) returns returns-2)

@@ -14,13 +14,11 @@ returns-2 c =
     let a = c .before .before .args in
     packed-few (a .order) 32 0 (a .xs .now) (c .before .if1 .left) (word-none (a .order) 32 (a .xs .now) (c .if2 .taken))
 
-shared-slice-read-t6 : tie.Need-shared-slice-read-t6
-shared-slice-read-t6 c = search needs
-
 returns-3 : tie.Need-returns-3
 returns-3 c =
     let a = c .before .before .before .args in
-    packed-few (a .order) 32 (getD (a .xs .now) 0 0) (a .xs .now) (c .before .before .if1 .left) (word-single (a .order) (a .xs .now) (c .before .before .if1 .left) (c .before .if2 .left))
+    packed-few (a .order) 32 (getD (a .xs .now) 0 0) (a .xs .now) (c .before .before .if1 .left)
+    (word-single (a .order) (a .xs .now) (c .before .before .if1 .left) (c .before .if2 .left))
 
 pub pack-u32-spec : {M : Type 1} → statement M
-pack-u32-spec = tie.close (tie.spec returns returns-2 shared-slice-read-t6 returns-3)
+pack-u32-spec = tie.close (tie.spec returns returns-2 (λ c. search needs) returns-3)

@@ -11,13 +11,11 @@ use Rattle.words.proofs.pack.pack_u8.Tie as tie
 returns : tie.Need-returns
 returns c = let a = c .before .before .args in packed-many (a .order) 8 (a .xs .now) (c .if1 .taken)
 
-word-u8-requires : tie.Need-word-u8-requires
-word-u8-requires c κs = search needs
-
 returns-2 : tie.Need-returns-2
 returns-2 c =
     let a = c .before .before .before .args in
-    packed-few (a .order) 8 (c .word-u8 .result) (a .xs .now) (c .before .if1 .left) (c .word-u8 .ensures ∙ ap (pack (a .order) 8) (filled-all (dummy 8) (a .xs .now)))
+    packed-few (a .order) 8 (c .word-u8 .result) (a .xs .now) (c .before .if1 .left)
+    (c .word-u8 .ensures ∙ ap (pack (a .order) 8) (filled-all (dummy 8) (a .xs .now)))
 
 pub pack-u8-spec : {M : Type 1} → statement M
-pack-u8-spec = tie.close (tie.spec returns word-u8-requires returns-2)
+pack-u8-spec = tie.close (tie.spec returns (λ c κs. search needs) returns-2)

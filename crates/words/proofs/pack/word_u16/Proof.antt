@@ -24,15 +24,17 @@ loop-holds c = (omega arith, refl)
 add-element-u16 : tie.Need-add-element-u16 Inv-loop μ-loop
 add-element-u16 c = omega arith
 
-element-u16-requires : tie.Need-element-u16-requires Inv-loop μ-loop
-element-u16-requires c κs = search needs
-
 append-requires : tie.Need-append-requires Inv-loop μ-loop
 append-requires c κs =
     let l = c .before .before .loop in
     let a = c .before .before .before .before .args in
-    let halves = elements-drop 16 (a .at) (a .xs .now) (λ j. c .before .before .before .shared-slice-known .given j .fits) in
-    (lit< tt, omega arith, lit< tt, c .element-u16 .ensures .1, rw (l .inv .1) (word-lt (a .order) 16 (dummy 16) (l .i) (drop (a .at) (a .xs .now)) (lit< tt) halves))
+    let halves = elements-drop 16 (a .at) (a .xs .now) (λ j. c .before .before .before .shared-slice-known .given j .fits) in (
+      lit< tt,
+      omega arith,
+      lit< tt,
+      c .element-u16 .ensures .1,
+      rw (l .inv .1) (word-lt (a .order) 16 (dummy 16) (l .i) (drop (a .at) (a .xs .now)) (lit< tt) halves),
+    )
 
 add-i : tie.Need-add-i Inv-loop μ-loop
 add-i c = omega arith
@@ -44,8 +46,11 @@ loop-again : tie.Need-loop-again Inv-loop μ-loop
 loop-again c =
     let l = c .before .before .before .loop in
     let a = c .before .before .before .before .before .args in
-    let e = c .before .element-u16 in
-    (omega arith, word-step (a .order) 16 (dummy 16) (l .i) (a .at) (e .result) (l .word) (c .append .result) (a .xs .now) (e .ensures .0) (l .inv .1) (c .append .ensures))
+    let e = c .before .element-u16 in (
+      omega arith,
+      word-step (a .order) 16 (dummy 16) (l .i) (a .at) (e .result) (l .word) (c .append .result) (a .xs .now) (e .ensures .0)
+          (l .inv .1) (c .append .ensures),
+    )
 
 returns : tie.Need-returns Inv-loop μ-loop
 returns c =
@@ -62,7 +67,7 @@ word-u16-spec =
     μ-loop
     loop-holds
     add-element-u16
-    element-u16-requires
+    (λ c κs. search needs)
     append-requires
     add-i
     loop-less

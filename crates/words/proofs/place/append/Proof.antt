@@ -7,43 +7,28 @@ use borrow.Author.Needs.{needs}
 use Rattle.words.proofs.place.append.Statement.{statement}
 use Rattle.words.proofs.place.append.Tie as tie
 
-enum-told : tie.Need-enum-told
-enum-told c = search needs
-
-cast-result : tie.Need-cast-result
-cast-result c = search needs
-
-shl-result : tie.Need-shl-result
-shl-result c = search needs
-
-enum-told-2 : tie.Need-enum-told-2
-enum-told-2 c = search needs
-
-mul-result : tie.Need-mul-result
-mul-result c = search needs
-
-cast-result-2 : tie.Need-cast-result-2
-cast-result-2 c = search needs
-
-shl-result-2 : tie.Need-shl-result-2
-shl-result-2 c = search needs
-
 returns : tie.Need-returns
-returns c = let s = c .before .before in let a = s .args in rw (c .enum-told .given .1) (shl-or (a .w) (a .x) (a .bits * a .n) (a .bits) (s .pre .4) (s .pre .3) (omega arith))
+returns c =
+    let s = c .before .before in
+    let a = s .args in
+    rw (c .enum-told .given .1) (shl-or (a .w) (a .x) (a .bits * a .n) (a .bits) (s .pre .4) (s .pre .3) (omega arith))
 
 returns-2 : tie.Need-returns-2
-returns-2 c = let s = c .before .before in let a = s .args in rw (c .enum-told2 .given .1) (shl-or (a .x) (a .w) (a .bits) (a .bits * a .n) (s .pre .3) (s .pre .4) (omega arith))
+returns-2 c =
+    let s = c .before .before in
+    let a = s .args in
+    rw (c .enum-told2 .given .1) (shl-or (a .x) (a .w) (a .bits) (a .bits * a .n) (s .pre .3) (s .pre .4) (omega arith))
 
 pub append-spec : {M : Type 1} → statement M
 append-spec =
     tie.close
     (tie.spec
-    enum-told
-    cast-result
-    shl-result
-    enum-told-2
-    mul-result
-    cast-result-2
-    shl-result-2
+    (λ c. search needs)
+    (λ c. search needs)
+    (λ c. search needs)
+    (λ c. search needs)
+    (λ c. search needs)
+    (λ c. search needs)
+    (λ c. search needs)
     returns
     returns-2)

@@ -19,32 +19,21 @@ Inv-loop n word out₀ end i₀ out i = (i ≤ end) × (length out ≡ length ou
 abbrev μ-loop : tie.MeasureT-loop
 μ-loop n word out₀ end i₀ out i = end - i
 
-min-requires : tie.Need-min-requires Inv-loop μ-loop
-min-requires c κs = search needs
-
 loop-holds : tie.Need-loop-holds Inv-loop μ-loop
 loop-holds c = (omega arith, refl, refl)
-
-element-requires : tie.Need-element-requires Inv-loop μ-loop
-element-requires c κs = search needs
 
 cast-out : tie.Need-cast-out Inv-loop μ-loop
 cast-out c = record { fits = c .element .ensures .1 }
 
-slice-write-out : tie.Need-slice-write-out Inv-loop μ-loop
-slice-write-out c = search needs
-
-add-i : tie.Need-add-i Inv-loop μ-loop
-add-i c = search needs
-
-loop-less : tie.Need-loop-less Inv-loop μ-loop
-loop-less c = search needs
-
 loop-again : tie.Need-loop-again Inv-loop μ-loop
 loop-again c =
     let l = c .before .before .loop in
-    let a = c .before .before .before .before .before .args in
-    (omega arith, length-set (l .out) (l .i) (c .element .result) ∙ l .inv .1, store-step (l .i) (c .element .result) (elementOf Msb 8 (a .n) (a .word)) (a .out .now) (l .out) (omega arith) (c .element .ensures .0) (l .inv .2))
+    let a = c .before .before .before .before .before .args in (
+      omega arith,
+      length-set (l .out) (l .i) (c .element .result) ∙ l .inv .1,
+      store-step (l .i) (c .element .result) (elementOf Msb 8 (a .n) (a .word)) (a .out .now) (l .out) (omega arith)
+          (c .element .ensures .0) (l .inv .2),
+    )
 
 same-length : tie.Need-same-length Inv-loop μ-loop
 same-length c = c .before .loop .inv .1
@@ -53,7 +42,8 @@ returns : tie.Need-returns Inv-loop μ-loop
 returns c =
     let l = c .before .loop in
     let a = c .before .before .before .before .args in
-    spread-stop Msb 8 (a .n) (a .word) (l .i) (c .before .before .min .result) (a .out .now) (l .out) (omega arith) (c .before .before .min .ensures) (l .inv .2)
+    spread-stop Msb 8 (a .n) (a .word) (l .i) (c .before .before .min .result) (a .out .now) (l .out) (omega arith)
+    (c .before .before .min .ensures) (l .inv .2)
 
 pub spread-msb-u8-spec : {M : Type 1} → statement M
 spread-msb-u8-spec =
@@ -61,13 +51,13 @@ spread-msb-u8-spec =
     (tie.spec
     Inv-loop
     μ-loop
-    min-requires
+    (λ c κs. search needs)
     loop-holds
-    element-requires
+    (λ c κs. search needs)
     cast-out
-    slice-write-out
-    add-i
-    loop-less
+    (λ c. search needs)
+    (λ c. search needs)
+    (λ c. search needs)
     loop-again
     same-length
     returns)

@@ -5,42 +5,6 @@ use borrow.Author.Needs.{needs}
 use Rattle.machine.proofs.transfer.Transfer.next.Statement.{statement}
 use Rattle.machine.proofs.transfer.Transfer.next.Tie as tie
 
-enum-known-phase : tie.Need-enum-known-phase
-enum-known-phase c = search needs
-
-poll-access-requires : tie.Need-poll-access-requires
-poll-access-requires c κs = search needs
-
-enum-told : tie.Need-enum-told
-enum-told c = search needs
-
-enum-known-phase-2 : tie.Need-enum-known-phase-2
-enum-known-phase-2 c = search needs
-
-poll-access-requires-2 : tie.Need-poll-access-requires-2
-poll-access-requires-2 c κs = search needs
-
-enum-told-2 : tie.Need-enum-told-2
-enum-told-2 c = search needs
-
-enum-known-phase-3 : tie.Need-enum-known-phase-3
-enum-known-phase-3 c = search needs
-
-poll-access-requires-3 : tie.Need-poll-access-requires-3
-poll-access-requires-3 c κs = search needs
-
-enum-told-3 : tie.Need-enum-told-3
-enum-told-3 c = search needs
-
-enum-told-4 : tie.Need-enum-told-4
-enum-told-4 c = search needs
-
-recovery-access-requires : tie.Need-recovery-access-requires
-recovery-access-requires c κs = search needs
-
-enum-known-phase-4 : tie.Need-enum-known-phase-4
-enum-known-phase-4 c = search needs
-
 returns : tie.Need-returns
 unfolding dueAccess
 returns c = simp (c .before .before .phase .given .1, c .poll-access .ensures)
@@ -77,18 +41,18 @@ pub next-spec : {M : Type 1} → statement M
 next-spec =
     tie.close
     (tie.spec
-    enum-known-phase
-    poll-access-requires
-    enum-told
-    enum-known-phase-2
-    poll-access-requires-2
-    enum-told-2
-    enum-known-phase-3
-    poll-access-requires-3
-    enum-told-3
-    enum-told-4
-    recovery-access-requires
-    enum-known-phase-4
+    (λ c. search needs)
+    (λ c κs. search needs)
+    (λ c. search needs)
+    (λ c. search needs)
+    (λ c κs. search needs)
+    (λ c. search needs)
+    (λ c. search needs)
+    (λ c κs. search needs)
+    (λ c. search needs)
+    (λ c. search needs)
+    (λ c κs. search needs)
+    (λ c. search needs)
     returns
     returns-2
     returns-3

@@ -12,120 +12,6 @@ use borrow.Author.Needs.{needs}
 use Rattle.sequences.proofs.call.Call.due.Statement.{statement}
 use Rattle.sequences.proofs.call.Call.due.Tie as tie
 
-enum-told : tie.Need-enum-told
-enum-told c = search needs
-
-soft-reset-move-requires : tie.Need-soft-reset-move-requires
-soft-reset-move-requires c κs = search needs
-
-enum-told-2 : tie.Need-enum-told-2
-enum-told-2 c = search needs
-
-recover-move-requires : tie.Need-recover-move-requires
-recover-move-requires c κs = search needs
-
-enum-told-3 : tie.Need-enum-told-3
-enum-told-3 c = search needs
-
-init-move-requires : tie.Need-init-move-requires
-init-move-requires c κs = search needs
-
-enum-told-4 : tie.Need-enum-told-4
-enum-told-4 c = search needs
-
-one-requires : tie.Need-one-requires
-one-requires c κs = search needs
-
-enum-known-self : tie.Need-enum-known-self
-enum-known-self c = search needs
-
-three-requires : tie.Need-three-requires
-three-requires c κs = search needs
-
-enum-told-5 : tie.Need-enum-told-5
-enum-told-5 c = search needs
-
-one-requires-2 : tie.Need-one-requires-2
-one-requires-2 c κs = search needs
-
-enum-known-self-2 : tie.Need-enum-known-self-2
-enum-known-self-2 c = search needs
-
-w1c-requires : tie.Need-w1c-requires
-w1c-requires c κs = search needs
-
-one-requires-3 : tie.Need-one-requires-3
-one-requires-3 c κs = search needs
-
-enum-told-6 : tie.Need-enum-told-6
-enum-told-6 c = search needs
-
-one-requires-4 : tie.Need-one-requires-4
-one-requires-4 c κs = search needs
-
-enum-known-self-3 : tie.Need-enum-known-self-3
-enum-known-self-3 c = search needs
-
-two-requires : tie.Need-two-requires
-two-requires c κs = search needs
-
-enum-known-self-4 : tie.Need-enum-known-self-4
-enum-known-self-4 c = search needs
-
-two-requires-2 : tie.Need-two-requires-2
-two-requires-2 c κs = search needs
-
-enum-told-7 : tie.Need-enum-told-7
-enum-told-7 c = search needs
-
-two-requires-3 : tie.Need-two-requires-3
-two-requires-3 c κs = search needs
-
-enum-told-8 : tie.Need-enum-told-8
-enum-told-8 c = search needs
-
-two-requires-4 : tie.Need-two-requires-4
-two-requires-4 c κs = search needs
-
-enum-known-self-5 : tie.Need-enum-known-self-5
-enum-known-self-5 c = search needs
-
-one-requires-5 : tie.Need-one-requires-5
-one-requires-5 c κs = search needs
-
-enum-known-self-6 : tie.Need-enum-known-self-6
-enum-known-self-6 c = search needs
-
-as-raw-requires : tie.Need-as-raw-requires
-as-raw-requires c κs = search needs
-
-one-requires-6 : tie.Need-one-requires-6
-one-requires-6 c κs = search needs
-
-enum-known-self-7 : tie.Need-enum-known-self-7
-enum-known-self-7 c = search needs
-
-disabled-clock-requires : tie.Need-disabled-clock-requires
-disabled-clock-requires c κs = search needs
-
-enum-known-self-8 : tie.Need-enum-known-self-8
-enum-known-self-8 c = search needs
-
-disabled-modify-requires : tie.Need-disabled-modify-requires
-disabled-modify-requires c κs = search needs
-
-enum-known-self-9 : tie.Need-enum-known-self-9
-enum-known-self-9 c = search needs
-
-disabled-modify-requires-2 : tie.Need-disabled-modify-requires-2
-disabled-modify-requires-2 c κs = search needs
-
-enum-known-self-10 : tie.Need-enum-known-self-10
-enum-known-self-10 c = search needs
-
-disabled-polarity-requires : tie.Need-disabled-polarity-requires
-disabled-polarity-requires c κs = search needs
-
 returns : tie.Need-returns
 returns c = simp (c .before .enum-told .given .1, c .soft-reset-move .ensures)
 
@@ -145,7 +31,11 @@ returns-6 : tie.Need-returns-6
 returns-6 c = simp (c .before .enum-told5 .given .1, c .one2 .ensures)
 
 returns-7 : tie.Need-returns-7
-returns-7 c = let b = c .before .before .before in c .one3 .ensures ∙ ap (λ (w : ℕ). moveAt (Write SR w ∷ []) (b .before .before .args .place)) (c .before .w1c .ensures) ∙ ap (λ (x : Call). moveAt (movesOf x) (b .before .before .args .place)) (sym (b .self2 .given .1))
+returns-7 c =
+    let b = c .before .before .before in
+    c .one3 .ensures
+    ∙ ap (λ (w : ℕ). moveAt (Write SR w ∷ []) (b .before .before .args .place)) (c .before .w1c .ensures)
+    ∙ ap (λ (x : Call). moveAt (movesOf x) (b .before .before .args .place)) (sym (b .self2 .given .1))
 
 returns-8 : tie.Need-returns-8
 returns-8 c = simp (c .before .enum-told6 .given .1, c .one4 .ensures)
@@ -166,7 +56,11 @@ returns-13 : tie.Need-returns-13
 returns-13 c = simp (c .before .before .self5 .given .1, c .one5 .ensures)
 
 returns-14 : tie.Need-returns-14
-returns-14 c = let b = c .before .before .before in c .one6 .ensures ∙ ap (λ (w : ℕ). moveAt (Write TCR w ∷ []) (b .before .before .args .place)) (c .before .as-raw .ensures) ∙ ap (λ (x : Call). moveAt (movesOf x) (b .before .before .args .place)) (sym (b .self6 .given .1))
+returns-14 c =
+    let b = c .before .before .before in
+    c .one6 .ensures
+    ∙ ap (λ (w : ℕ). moveAt (Write TCR w ∷ []) (b .before .before .args .place)) (c .before .as-raw .ensures)
+    ∙ ap (λ (x : Call). moveAt (movesOf x) (b .before .before .args .place)) (sym (b .self6 .given .1))
 
 returns-15 : tie.Need-returns-15
 returns-15 c = simp (c .before .before .self7 .given .1, c .disabled-clock .ensures)
@@ -184,44 +78,44 @@ pub due-spec : {M : Type 1} → statement M
 due-spec =
     tie.close
     (tie.spec
-    enum-told
-    soft-reset-move-requires
-    enum-told-2
-    recover-move-requires
-    enum-told-3
-    init-move-requires
-    enum-told-4
-    one-requires
-    enum-known-self
-    three-requires
-    enum-told-5
-    one-requires-2
-    enum-known-self-2
-    w1c-requires
-    one-requires-3
-    enum-told-6
-    one-requires-4
-    enum-known-self-3
-    two-requires
-    enum-known-self-4
-    two-requires-2
-    enum-told-7
-    two-requires-3
-    enum-told-8
-    two-requires-4
-    enum-known-self-5
-    one-requires-5
-    enum-known-self-6
-    as-raw-requires
-    one-requires-6
-    enum-known-self-7
-    disabled-clock-requires
-    enum-known-self-8
-    disabled-modify-requires
-    enum-known-self-9
-    disabled-modify-requires-2
-    enum-known-self-10
-    disabled-polarity-requires
+    (λ c. search needs)
+    (λ c κs. search needs)
+    (λ c. search needs)
+    (λ c κs. search needs)
+    (λ c. search needs)
+    (λ c κs. search needs)
+    (λ c. search needs)
+    (λ c κs. search needs)
+    (λ c. search needs)
+    (λ c κs. search needs)
+    (λ c. search needs)
+    (λ c κs. search needs)
+    (λ c. search needs)
+    (λ c κs. search needs)
+    (λ c κs. search needs)
+    (λ c. search needs)
+    (λ c κs. search needs)
+    (λ c. search needs)
+    (λ c κs. search needs)
+    (λ c. search needs)
+    (λ c κs. search needs)
+    (λ c. search needs)
+    (λ c κs. search needs)
+    (λ c. search needs)
+    (λ c κs. search needs)
+    (λ c. search needs)
+    (λ c κs. search needs)
+    (λ c. search needs)
+    (λ c κs. search needs)
+    (λ c κs. search needs)
+    (λ c. search needs)
+    (λ c κs. search needs)
+    (λ c. search needs)
+    (λ c κs. search needs)
+    (λ c. search needs)
+    (λ c κs. search needs)
+    (λ c. search needs)
+    (λ c κs. search needs)
     returns
     returns-2
     returns-3

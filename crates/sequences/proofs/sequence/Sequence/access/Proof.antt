@@ -4,57 +4,6 @@ use borrow.Author.Needs.{needs}
 use Rattle.sequences.proofs.sequence.Sequence.access.Statement.{statement}
 use Rattle.sequences.proofs.sequence.Sequence.access.Tie as tie
 
-enum-known-due : tie.Need-enum-known-due
-enum-known-due c = search needs
-
-enum-told : tie.Need-enum-told
-enum-told c = search needs
-
-enum-known-due-2 : tie.Need-enum-known-due-2
-enum-known-due-2 c = search needs
-
-enum-told-2 : tie.Need-enum-told-2
-enum-told-2 c = search needs
-
-enum-told-3 : tie.Need-enum-told-3
-enum-told-3 c = search needs
-
-enum-told-4 : tie.Need-enum-told-4
-enum-told-4 c = search needs
-
-enum-told-5 : tie.Need-enum-told-5
-enum-told-5 c = search needs
-
-enum-known-due-3 : tie.Need-enum-known-due-3
-enum-known-due-3 c = search needs
-
-register-requires : tie.Need-register-requires
-register-requires c κs = search needs
-
-apply-requires : tie.Need-apply-requires
-apply-requires c κs = search needs
-
-enum-known-due-4 : tie.Need-enum-known-due-4
-enum-known-due-4 c = search needs
-
-register-requires-2 : tie.Need-register-requires-2
-register-requires-2 c κs = search needs
-
-apply-requires-2 : tie.Need-apply-requires-2
-apply-requires-2 c κs = search needs
-
-enum-known-due-5 : tie.Need-enum-known-due-5
-enum-known-due-5 c = search needs
-
-enum-known-due-6 : tie.Need-enum-known-due-6
-enum-known-due-6 c = search needs
-
-kept-requires : tie.Need-kept-requires
-kept-requires c κs = search needs
-
-enum-told-6 : tie.Need-enum-told-6
-enum-told-6 c = search needs
-
 returns : tie.Need-returns
 returns c = simp (c .before .due .given .1)
 
@@ -95,23 +44,23 @@ pub access-spec : {M : Type 1} → statement M
 access-spec =
     tie.close
     (tie.spec
-    enum-known-due
-    enum-told
-    enum-known-due-2
-    enum-told-2
-    enum-told-3
-    enum-told-4
-    enum-told-5
-    enum-known-due-3
-    register-requires
-    apply-requires
-    enum-known-due-4
-    register-requires-2
-    apply-requires-2
-    enum-known-due-5
-    enum-known-due-6
-    kept-requires
-    enum-told-6
+    (λ c. search needs)
+    (λ c. search needs)
+    (λ c. search needs)
+    (λ c. search needs)
+    (λ c. search needs)
+    (λ c. search needs)
+    (λ c. search needs)
+    (λ c. search needs)
+    (λ c κs. search needs)
+    (λ c κs. search needs)
+    (λ c. search needs)
+    (λ c κs. search needs)
+    (λ c κs. search needs)
+    (λ c. search needs)
+    (λ c. search needs)
+    (λ c κs. search needs)
+    (λ c. search needs)
     returns
     returns-2
     returns-3

@@ -7,11 +7,10 @@ use borrow.Author.Needs.{needs}
 use Rattle.words.proofs.transaction.Transaction.new.Statement.{statement}
 use Rattle.words.proofs.transaction.Transaction.new.Tie as tie
 
-frame-size-valid-requires : tie.Need-frame-size-valid-requires
-frame-size-valid-requires c κs = search needs
-
 sub-t5 : tie.Need-sub-t5
-sub-t5 c = omega (arith, accepted-between (c .before .before .args .frame-size) (sym (c .before .frame-size-valid .ensures) ∙ c .if1 .taken))
+sub-t5 c =
+    omega
+    (arith, accepted-between (c .before .before .args .frame-size) (sym (c .before .frame-size-valid .ensures) ∙ c .if1 .taken))
 
 returns : tie.Need-returns
 returns c = framed-accepted (c .before .before .args .frame-size) (sym (c .before .frame-size-valid .ensures) ∙ c .if1 .taken)
@@ -20,4 +19,4 @@ returns-2 : tie.Need-returns-2
 returns-2 c = framed-refused (c .before .before .args .frame-size) (sym (c .before .frame-size-valid .ensures) ∙ c .if1 .left)
 
 pub new-spec : {M : Type 1} → statement M
-new-spec = tie.close (tie.spec frame-size-valid-requires sub-t5 returns returns-2)
+new-spec = tie.close (tie.spec (λ c κs. search needs) sub-t5 returns returns-2)

@@ -22,22 +22,19 @@ returns : tie.Need-returns
 returns c =
     let a = c .before .args in
     framed-refused (widthBits (a .width) * a .len)
-    (refused-long (widthBits (a .width) * a .len) (omega (arith, mul-le-mul {n₁ = 8} {m₁ = 513} {n₂ = widthBits (a .width)} {m₂ = a .len} (at-least-8 (a .width)) (omega arith))))
-
-bits-requires : tie.Need-bits-requires
-bits-requires c κs = search needs
-
-cast-new : tie.Need-cast-new
-cast-new c = search needs
+    (refused-long (widthBits (a .width) * a .len)
+    (omega
+    (arith, mul-le-mul {n₁ = 8} {m₁ = 513} {n₂ = widthBits (a .width)} {m₂ = a .len} (at-least-8 (a .width)) (omega arith))))
 
 mul-new : tie.Need-mul-new
-mul-new c = omega (arith, mul-le-mul {n₁ = c .bits .result} {m₁ = c .before .before .args .len} {n₂ = 32} {m₂ = 512} (c .bits .ensures .2) (omega arith))
-
-new-requires : tie.Need-new-requires
-new-requires c κs = search needs
+mul-new c =
+    omega (
+      arith,
+      mul-le-mul {n₁ = c .bits .result} {m₁ = c .before .before .args .len} {n₂ = 32} {m₂ = 512} (c .bits .ensures .2) (omega arith),
+    )
 
 returns-2 : tie.Need-returns-2
 returns-2 c = c .new .ensures ∙ ap (λ (k : ℕ). framed (k * c .before .before .before .args .len)) (c .before .bits .ensures .0)
 
 pub new-words-spec : {M : Type 1} → statement M
-new-words-spec = tie.close (tie.spec returns bits-requires cast-new mul-new new-requires returns-2)
+new-words-spec = tie.close (tie.spec returns (λ c κs. search needs) (λ c. search needs) mul-new (λ c κs. search needs) returns-2)

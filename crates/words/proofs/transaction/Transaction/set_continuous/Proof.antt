@@ -21,4 +21,5 @@ set-continuous-spec 𝓤 H 𝓜 𝓖 𝓡 =
     entered 𝓤 H (tripleOf 𝓤 H (𝓖 .A) set.signature (set.spec 𝓤 H (𝓖 .A) (𝓜 .mem) (𝓡 .run)))
     (tables 𝓤 H 𝓜 𝓡 code.env .C) (tables 𝓤 H 𝓜 𝓡 code.env .Λ) #set code.function (code.unfolded 𝓤 H 𝓜 𝓡)
     (setter-meets with-def.name bool flag (setFlag CONT) 𝓤 H (𝓖 .A) (givenOf 𝓤 H 𝓜 𝓖) (tablesOf 𝓤 H 𝓜 (tables 𝓤 H 𝓜 𝓡 code.env))
-    (cited 𝓤 H (With bool flag (setFlag CONT) 𝓤 H (𝓖 .A)) 𝓜 𝓡 code.env with-def.name with-def.routine code.calls-words·transaction·Transaction·with-continuous (with-thm.met 𝓤 H 𝓜 𝓖 𝓡)))
+    (cited 𝓤 H (With bool flag (setFlag CONT) 𝓤 H (𝓖 .A)) 𝓜 𝓡 code.env with-def.name with-def.routine
+    code.calls-words·transaction·Transaction·with-continuous (with-thm.met 𝓤 H 𝓜 𝓖 𝓡)))

@@ -8,16 +8,10 @@ use Rattle.manual.specs.Manual.{setField}
 use Rattle.words.proofs.transaction.Transaction.with_flag.Statement.{statement}
 use Rattle.words.proofs.transaction.Transaction.with_flag.Tie as tie
 
-flag-requires : tie.Need-flag-requires
-flag-requires c κs = search needs
-
-set-requires : tie.Need-set-requires
-set-requires c κs = search needs
-
 returns : tie.Need-returns
 returns c =
     let a = c .before .before .args in
     c .set .ensures ∙ ap (λ (v : ℕ). setField (Tcr (a .field)) v (a .self .0)) (c .before .flag .ensures)
 
 pub with-flag-spec : {M : Type 1} → statement M
-with-flag-spec = tie.close (tie.spec flag-requires set-requires returns)
+with-flag-spec = tie.close (tie.spec (λ c κs. search needs) (λ c κs. search needs) returns)

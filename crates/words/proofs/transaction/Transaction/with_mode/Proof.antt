@@ -9,24 +9,13 @@ use borrow.Author.Needs.{needs}
 use Rattle.words.proofs.transaction.Transaction.with_mode.Statement.{statement}
 use Rattle.words.proofs.transaction.Transaction.with_mode.Tie as tie
 
-cpha-requires : tie.Need-cpha-requires
-cpha-requires c κs = search needs
-
-set-requires : tie.Need-set-requires
-set-requires c κs = search needs
-
-cpol-requires : tie.Need-cpol-requires
-cpol-requires c κs = search needs
-
-set-requires-2 : tie.Need-set-requires-2
-set-requires-2 c κs = search needs
-
 returns : tie.Need-returns
 returns c =
     let word = c .before .before .before .before .args .self .0 in
     c .set2 .ensures
-    ∙ ap₂ (setField (Tcr CPOL)) (c .before .cpol .ensures .0) (c .before .before .set .ensures ∙ ap (λ (v : ℕ). setField (Tcr CPHA) v word) (c .before .before .before .cpha .ensures .0))
+    ∙ ap₂ (setField (Tcr CPOL)) (c .before .cpol .ensures .0)
+    (c .before .before .set .ensures ∙ ap (λ (v : ℕ). setField (Tcr CPHA) v word) (c .before .before .before .cpha .ensures .0))
 
 pub with-mode-spec : {M : Type 1} → statement M
 with-mode-spec =
-    tie.close (tie.spec cpha-requires set-requires cpol-requires set-requires-2 returns)
+    tie.close (tie.spec (λ c κs. search needs) (λ c κs. search needs) (λ c κs. search needs) (λ c κs. search needs) returns)

@@ -104,7 +104,9 @@ module _ {M : Type 1} (𝓤 : URA M) (H : Heap 𝓤) (A : Atoms 𝓤) (W : Given
       pass1 ! (init ! 24 refl (flag .typed 𝓤 H A W (s .continuing) (are .1 .1 .1 .1 .1 .1 .0))) $
       pass1 ! (init ! 22 refl (mode .typed 𝓤 H A W (s .mode) (are .1 .1 .1 .1 .1 .1 .1 .0))) $
       pass1 ! (init ! 20 refl (pcs .typed 𝓤 H A W (s .pcs) (are .1 .1 .1 .1 .1 .1 .1 .1 .0))) $
-      pass0 ! $ assigns ! (of-opd ! (load ! (from ! (stop !)) (look ! 36 refl))) (from ! (stop !)) (init ! 18 refl (command .typed 𝓤 H A W h (are .0))) $
+      pass0 ! $
+      assigns ! (of-opd ! (load ! (from ! (stop !)) (look ! 36 refl))) (from ! (stop !))
+      (init ! 18 refl (command .typed 𝓤 H A W h (are .0))) $
       -- [the command; the reference; the unit; the value that is set; …]
       move ! (18 ∷ 14 ∷ 16 ∷ 32 ∷ []) $
       sets ! fm BitOrder.the-row bitOrder setOrder (known .order) h (are .0, refl) (s .order) (are .1 .1 .0) refl refl refl refl (λ w₁ c₁.
@@ -122,11 +124,13 @@ module _ {M : Type 1} (𝓤 : URA M) (H : Heap 𝓤) (A : Atoms 𝓤) (W : Given
       sets ! fm bool flag (setFlag CONT) (known .continuous) w₆ c₆ (s .continuous) (are .1 .1 .1 .1 .1 .0) refl refl refl refl (λ w₇ c₇.
       move ! (0 ∷ 16 ∷ 2 ∷ 29 ∷ []) $
       sets ! fm bool flag (setFlag CONTC) (known .continuing) w₇ c₇ (s .continuing) (are .1 .1 .1 .1 .1 .1 .0) refl refl refl refl (λ w₈ c₈.
-      assigns ! (of-opd ! (load ! (from ! (stop !)) (look ! 0 refl))) (from ! (stop !)) (init ! 38 refl (command .typed 𝓤 H A W w₈ (c₈ .0))) $
+      assigns ! (of-opd ! (load ! (from ! (stop !)) (look ! 0 refl))) (from ! (stop !))
+      (init ! 38 refl (command .typed 𝓤 H A W w₈ (c₈ .0))) $
       returns ! (look ! 38 refl) $
       forget ! 38 refl $ forget ! 36 refl $ forget ! 11 refl $ forget ! 17 refl $ forget ! 9 refl $ forget ! 7 refl $
       forget ! 5 refl $ forget ! 3 refl $ forget ! 15 refl $ forget ! 13 refl $ forget ! 0 refl $
-      move ! (38 ∷ 39 ∷ []) $ free1 ! $ move ! (36 ∷ 37 ∷ []) $ free1 ! $ move ! (11 ∷ 35 ∷ []) $ free1 ! $ move ! (16 ∷ 33 ∷ []) $ free1 ! $
+      move ! (38 ∷ 39 ∷ []) $ free1 ! $ move ! (36 ∷ 37 ∷ []) $ free1 ! $ move ! (11 ∷ 35 ∷ []) $ free1 ! $ move ! (16 ∷ 33 ∷ []) $
+      free1 ! $
       move ! (9 ∷ 31 ∷ []) $ free1 ! $ move ! (7 ∷ 29 ∷ []) $ free1 ! $ move ! (5 ∷ 27 ∷ []) $ free1 ! $ move ! (3 ∷ 25 ∷ []) $ free1 ! $
       move ! (10 ∷ 23 ∷ []) $ free1 ! $ move ! (8 ∷ 21 ∷ []) $ free1 ! $ move ! (0 ∷ 19 ∷ []) $ free1 ! $ move ! (1 ∷ 17 ∷ []) $ free1 ! $
       move ! (7 ∷ 15 ∷ []) $ free1 ! $ move ! (6 ∷ 13 ∷ []) $ free1 ! $ move ! (5 ∷ 11 ∷ []) $ free1 ! $ move ! (4 ∷ 9 ∷ []) $ free1 ! $
@@ -152,7 +156,8 @@ with-settings-spec 𝓤 H 𝓜 𝓖 𝓡 =
       receive = cited 𝓤 H (Set bool flag (setFlag RXMSK) 𝓤 H (𝓖 .A)) 𝓜 𝓡 code.env
           receive-def.name receive-def.routine code.calls-words·transaction·Transaction·set-receive-data-mask (receive-thm.met 𝓤 H 𝓜 𝓖 𝓡);
       transmit = cited 𝓤 H (Set bool flag (setFlag TXMSK) 𝓤 H (𝓖 .A)) 𝓜 𝓡 code.env
-          transmit-def.name transmit-def.routine code.calls-words·transaction·Transaction·set-transmit-data-mask (transmit-thm.met 𝓤 H 𝓜 𝓖 𝓡);
+          transmit-def.name transmit-def.routine code.calls-words·transaction·Transaction·set-transmit-data-mask
+          (transmit-thm.met 𝓤 H 𝓜 𝓖 𝓡);
       continuous = cited 𝓤 H (Set bool flag (setFlag CONT) 𝓤 H (𝓖 .A)) 𝓜 𝓡 code.env
           continuous-def.name continuous-def.routine code.calls-words·transaction·Transaction·set-continuous (continuous-thm.met 𝓤 H 𝓜 𝓖 𝓡);
       continuing = cited 𝓤 H (Set bool flag (setFlag CONTC) 𝓤 H (𝓖 .A)) 𝓜 𝓡 code.env
