@@ -21,7 +21,8 @@ pub total-is : (s : Start) → total s ≡ totalBy (s .board .inplace) (length (
 total-is s = by-place (s .board .inplace)
   where
     by-place : (b : Bool)
-        → cond b (inPlacePlan (elementBits s) (s .board .driver) (s .read)) (separatePlan (elementBits s) (s .board .driver) (s .read) (s .write)) .total
+        → cond b (inPlacePlan (elementBits s) (s .board .driver) (s .read))
+        (separatePlan (elementBits s) (s .board .driver) (s .read) (s .write)) .total
         ≡ totalBy b (length (s .read)) (length (s .write))
     by-place true = refl
     by-place false = refl
@@ -30,13 +31,18 @@ pub begun-is : (s : Start) → transferOf s ≡ begun (elementBits s) (s .board 
 begun-is s = by-place (s .board .inplace)
   where
     by-place : (b : Bool)
-        → begun (elementBits s) (s .board .driver) (cond b (inPlacePlan (elementBits s) (s .board .driver) (s .read)) (separatePlan (elementBits s) (s .board .driver) (s .read) (s .write)))
+        → begun (elementBits s) (s .board .driver)
+        (cond b (inPlacePlan (elementBits s) (s .board .driver) (s .read))
+        (separatePlan (elementBits s) (s .board .driver) (s .read) (s .write)))
         ≡ begun (elementBits s) (s .board .driver)
-        (lengthPlan (elementBits s) Both (cond b (inPlacePlan (elementBits s) (s .board .driver) (s .read)) (separatePlan (elementBits s) (s .board .driver) (s .read) (s .write)) .total))
+        (lengthPlan (elementBits s) Both
+        (cond b (inPlacePlan (elementBits s) (s .board .driver) (s .read))
+        (separatePlan (elementBits s) (s .board .driver) (s .read) (s .write)) .total))
     by-place true = refl
     by-place false = refl
 
--- NUMBER 9, of elements of k bits: m and n are the total lengths; `wk`, `wg`, `wa`, `og`, `oa` are the bits and the orders that the code has
+-- NUMBER 9, of elements of k bits: m and n are the total lengths; `wk`, `wg`, `wa`, `og`, `oa` are the bits and the orders that the code
+-- has
 module _ (k : ℕ) (g a : Board) (m n : ℕ) {wk wg : ℕ} (xk : wk ≡ k) (xg : wg ≡ widthBits (g .width)) where
   pub refused-buffers : (wg ≡ wk → ⊥) → true ≡ refusedBy k g a m n
   refused-buffers h = rw (ne-eqb (widthBits (g .width)) k (λ (e : widthBits (g .width) ≡ k). h (xg ∙ e ∙ sym xk)))
@@ -59,7 +65,8 @@ module _ (k : ℕ) (g a : Board) (m n : ℕ) {wk wg : ℕ} (xk : wk ≡ k) (xg :
               own,
               le-ltb 4 (g .exponent) eg,
               le-ltb 4 (a .exponent) ea,
-              ne-eqb (widthBits (g .width)) (widthBits (a .width)) (λ (e : widthBits (g .width) ≡ widthBits (a .width)). h (xg ∙ e ∙ sym xa)),
+              ne-eqb (widthBits (g .width)) (widthBits (a .width))
+                  (λ (e : widthBits (g .width) ≡ widthBits (a .width)). h (xg ∙ e ∙ sym xa)),
             )
 
         module _ (w : wg ≡ wa) {og oa : ℕ} (yg : og ≡ lsbfOf (g .driver .order)) (ya : oa ≡ lsbfOf (a .driver .order)) where
@@ -87,7 +94,9 @@ module _ (k : ℕ) (g a : Board) (m n : ℕ) {wk wg : ℕ} (xk : wk ≡ k) (xg :
 -- boards that are not refused have FIFOs of at most 16 words
 pub small-exponents : (k : ℕ) (g a : Board) (m n : ℕ) → refusedBy k g a m n ≡ false → (g .exponent ≤ 4) × (a .exponent ≤ 4)
 small-exponents k g a m n h =
-    let alike = unequal (widthBits (g .width)) (widthBits (a .width)) || (unequal (lsbfOf (g .driver .order)) (lsbfOf (a .driver .order)) || unequal m n) in
+    let alike =
+    unequal (widthBits (g .width))
+    (widthBits (a .width)) || (unequal (lsbfOf (g .driver .order)) (lsbfOf (a .driver .order)) || unequal m n) in
     let fits = either (unequal (widthBits (g .width)) k) (unfitBy g a m n) h .1 in
     let gate = either (ltb 4 (g .exponent)) (ltb 4 (a .exponent) || alike) fits in
     (ltb-false 4 (g .exponent) (gate .0), ltb-false 4 (a .exponent) (either (ltb 4 (a .exponent)) alike (gate .1) .0))

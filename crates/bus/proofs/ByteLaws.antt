@@ -1,6 +1,5 @@
--- Events as bytes: every event has one. So (c) of demand 3 speaks of what the pair entry answers: to a list of bytes that can still come to Ok twice
--- at both ends there are bytes that bring it there.
--- Assumes nothing.
+-- Events as bytes: every event has one. So (c) of demand 3 speaks of what the pair entry answers: to a list of bytes that can still come to
+-- Ok twice at both ends there are bytes that bring it there. Assumes nothing.
 use Prim.Native.Nat.{ℕ, zero, suc, _+_, _^_, _<_}
 use mathlib.Core.Bool.{Bool, true, false, cond}
 use mathlib.Core.List.{List, [], _∷_, _++_}

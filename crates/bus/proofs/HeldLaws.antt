@@ -11,7 +11,8 @@ use lib.ListN.{length, getD, take, drop, set}
 use lib.Seq.{take-suc, take-suc-set, take-take, length-take-le, getD-take}
 use borrow.Author.Tests.{ltb-true, leb-false}
 use Rattle.manual.specs.declared.Register.{Register}
-use Rattle.manual.specs.declared.Register.the-variants.{PARAM, CR, SR, IER, DER, CFGR0, CFGR1, DMR0, DMR1, CCR, FCR, FSR, TCR, TDR, RSR, RDR}
+use Rattle.manual.specs.declared.Register.the-variants.{PARAM, CR, SR, IER, DER, CFGR0, CFGR1, DMR0}
+use Rattle.manual.specs.declared.Register.the-variants.{DMR1, CCR, FCR, FSR, TCR, TDR, RSR, RDR}
 use Rattle.sequences.specs.declared.access.Access.{Access}
 use Rattle.sequences.specs.declared.access.Access.the-variants.{Read, Write, Send, Receive, Done}
 use Rattle.words.specs.Buffer.{cutWord}
@@ -61,7 +62,8 @@ shift-more (w ∷ words) out i h l e =
     rw (add-one i)
     (take-suc-set out i (getD words i 0) h ∙ ap (λ (xs : List ℕ). xs ++ (getD words i 0 ∷ [])) e ∙ sym (take-suc words i 0 (omega arith)))
 
-pub rest-queue : (words out : List ℕ) (n k : ℕ) → (n ≡ 0 → ⊥) → n ≤ k + 1 → take k out ≡ drop 1 words → take (n - 1) out ≡ behind (take n words)
+pub rest-queue : (words out : List ℕ) (n k : ℕ) → (n ≡ 0 → ⊥) → n ≤ k + 1 → take k out ≡ drop 1 words
+    → take (n - 1) out ≡ behind (take n words)
 rest-queue words out zero k h l e = absurd (h refl)
 rest-queue words out (suc n) k h l e =
     let m : suc n - 1 ≡ n = omega arith in
@@ -76,14 +78,16 @@ rest-queue words out (suc n) k h l e =
     dropped (w ∷ words) = refl
 
 -- THE WORDS that were received and those that are sent
-pub word-taken : (f : Frame) (send words : List ℕ) (got i : ℕ) → got ≤ length words → wordIn f send words got i ≡ wordIn f send (take got words) (length (take got words)) i
+pub word-taken : (f : Frame) (send words : List ℕ) (got i : ℕ) → got ≤ length words
+    → wordIn f send words got i ≡ wordIn f send (take got words) (length (take got words)) i
 word-taken f send words got i h =
     rw (length-take-le got words h) (by-test (f .inplace) (ltb i got) refl)
   where
     cut : ℕ → ℕ
     cut v = cutWord (widthBits (f .width)) (f .total) i v
 
-    by-test : (b c : Bool) → ltb i got ≡ c → cond (b && c) (cut (getD words i 0)) (getD send i 0) ≡ cond (b && c) (cut (getD (take got words) i 0)) (getD send i 0)
+    by-test : (b c : Bool) → ltb i got ≡ c
+        → cond (b && c) (cut (getD words i 0)) (getD send i 0) ≡ cond (b && c) (cut (getD (take got words) i 0)) (getD send i 0)
     by-test true true e = ap cut (sym (getD-take got words i 0 (ltb-true i got e)))
     by-test true false e = refl
     by-test false c e = refl
@@ -125,7 +129,8 @@ room e f h s full =
 abbrev pub Ported : Station → Station → Port → Type 0
 Ported s r p = (r .transfer ≡ s .transfer) × (r .flush ≡ s .flush) × (r .received ≡ s .received) × (r .port ≡ p)
 
-pub ported : (s r : Station) (p : Port) (words registers : List ℕ) → Ported s r p → endOf r words registers ≡ rewired (λ w. wireOf p) (endOf s words registers)
+pub ported : (s r : Station) (p : Port) (words registers : List ℕ) → Ported s r p
+    → endOf r words registers ≡ rewired (λ w. wireOf p) (endOf s words registers)
 ported s r p words registers e =
     let a = e .0 in
     let b = e .1 in

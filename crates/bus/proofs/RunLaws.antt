@@ -40,7 +40,8 @@ room-for : (s : Station) (words registers : List ℕ) (x : End) (b : Start) → 
     → ((i : ℕ) → dueAccess (x .transfer) ≡ Receive i → (accepted b ≡ true) × (length (x .received) < frameWords b)) → Stored s words
 room-for s words registers x b e within room receives i h =
     let r = receives i (ap (λ (y : End). dueAccess (y .transfer)) (sym e) ∙ h) in
-    let n : length (x .received) ≡ s .received = ap (λ (y : End). length (y .received)) (sym e) ∙ length-take-le (s .received) words within in
+    let n : length (x .received) ≡ s .received =
+    ap (λ (y : End). length (y .received)) (sym e) ∙ length-take-le (s .received) words within in
     omega (arith, n, r .1, room (r .0))
 
 -- A STEP DEPENDS ON THE WORDS only where one is sent
@@ -58,18 +59,22 @@ registers-at u v (Send i) g = refl
 registers-at u v (Receive i) g = refl
 registers-at u v (Done x) g = refl
 
-same-step : (j k : Job) (busy : Bool) (x : End) → j .exponent ≡ k .exponent → ((i : ℕ) → dueAccess (x .transfer) ≡ Send i → j .words (x .received) i ≡ k .words (x .received) i)
+same-step : (j k : Job) (busy : Bool) (x : End) → j .exponent ≡ k .exponent
+    → ((i : ℕ) → dueAccess (x .transfer) ≡ Send i → j .words (x .received) i ≡ k .words (x .received) i)
     → stepped j busy x ≡ stepped k busy x
 unfolding stepped
 same-step j k busy x e h =
-    same-end refl refl refl (wire-at (j .exponent) (j .words (x .received)) (k .words (x .received)) due (x .wire) (λ i q. h i (word-due (x .transfer) (x .flush) (Send i) refl q)))
+    same-end refl refl refl
+    (wire-at (j .exponent) (j .words (x .received)) (k .words (x .received)) due (x .wire)
+    (λ i q. h i (word-due (x .transfer) (x .flush) (Send i) refl q)))
     (registers-at (j .words (x .received)) (k .words (x .received)) due (x .registers))
     ∙ ap (λ (n : ℕ). stepped (record { exponent = n; words = k .words }) busy x) e
   where
     due : Access
     due = endAccess (x .transfer) (x .flush)
 
-same-clock : (j k j′ k′ : Job) (p q : List ℕ) (x : Pair) → j .exponent ≡ j′ .exponent → k .exponent ≡ k′ .exponent → clockedBy j k p q x ≡ clockedBy j′ k′ p q x
+same-clock : (j k j′ k′ : Job) (p q : List ℕ) (x : Pair) → j .exponent ≡ j′ .exponent → k .exponent ≡ k′ .exponent
+    → clockedBy j k p q x ≡ clockedBy j′ k′ p q x
 unfolding clockedBy
 same-clock j k j′ k′ [] q x e f = refl
 same-clock j k j′ k′ (v ∷ p) [] x e f = rw (e, f)
@@ -87,10 +92,12 @@ same-event j k j′ k′ p (Noise Gate d) e f g h = refl
 same-event j k j′ k′ p (Noise Antenna d) e f g h = refl
 
 module _ (g a : Start) (gl al : Link) (gateSend antennaSend : List ℕ) where
-  pub one-more : (gs hs : Station) (gw aw gr ar : List ℕ) → Linked g a gl al gateSend antennaSend (length gw) (length aw) → gs .received ≤ length gw → hs .received ≤ length aw
+  pub one-more : (gs hs : Station) (gw aw gr ar : List ℕ) → Linked g a gl al gateSend antennaSend (length gw) (length aw)
+      → gs .received ≤ length gw → hs .received ≤ length aw
       → (bytes : List ℕ) (i : ℕ) → i < length bytes → pair (endOf gs gw gr) (endOf hs aw ar) ≡ pairAfter g a (eventsOf (take i bytes))
       → (v : Event) → v ≡ eventOf (getD bytes i 0) → (p : Pair)
-      → (Stored gs gw → Stored hs aw → p ≡ happened (linkJob gl gateSend) (linkJob al antennaSend) (pair (endOf gs gw gr) (endOf hs aw ar)) v)
+      → (Stored gs gw → Stored hs aw
+      → p ≡ happened (linkJob gl gateSend) (linkJob al antennaSend) (pair (endOf gs gw gr) (endOf hs aw ar)) v)
       → p ≡ pairAfter g a (eventsOf (take (i + 1) bytes))
   one-more gs hs gw aw gr ar l wg wa bytes i h e v ev p next =
       let f = fit g a (l .fits) in
@@ -99,13 +106,16 @@ module _ (g a : Start) (gl al : Link) (gateSend antennaSend : List ℕ) where
       next (room-for gs gw gr (q .gate) g (ap (λ (x : Pair). x .gate) e) wg (l .gate .room) (gate-receives g a f vs))
       (room-for hs aw ar (q .antenna) a (ap (λ (x : Pair). x .antenna) e) wa (l .antenna .room) (antenna-receives g a f vs))
       ∙ ap₂ (happened (linkJob gl gateSend) (linkJob al antennaSend)) e ev
-      ∙ same-event (linkJob gl gateSend) (linkJob al antennaSend) (job g) (job a) q (eventOf (getD bytes i 0)) (l .gate .exponent) (l .antenna .exponent)
-      (λ k d. l .gate .words (gate-sends g a f vs k d .0) (q .gate .received) k) (λ k d. l .antenna .words (antenna-sends g a f vs k d .0) (q .antenna .received) k)
+      ∙ same-event (linkJob gl gateSend) (linkJob al antennaSend) (job g) (job a) q (eventOf (getD bytes i 0))
+      (l .gate .exponent) (l .antenna .exponent)
+      (λ k d. l .gate .words (gate-sends g a f vs k d .0) (q .gate .received) k)
+      (λ k d. l .antenna .words (antenna-sends g a f vs k d .0) (q .antenna .received) k)
       ∙ rw (add-one i) (sym (after-last (job g) (job a) (freshPair g a) bytes i h))
 
   pub relinked : {m n m′ n′ : ℕ} → m′ ≡ m → n′ ≡ n → Linked g a gl al gateSend antennaSend m n → Linked g a gl al gateSend antennaSend m′ n′
   relinked {m} {n} {m′} {n′} em en l =
-      subst (λ (i : ℕ). Linked g a gl al gateSend antennaSend m′ i) (sym en) (subst (λ (i : ℕ). Linked g a gl al gateSend antennaSend i n) (sym em) l)
+      subst (λ (i : ℕ). Linked g a gl al gateSend antennaSend m′ i) (sym en)
+      (subst (λ (i : ℕ). Linked g a gl al gateSend antennaSend i n) (sym em) l)
 
 -- room among so many places
 pub resized : {gl al : Link} {ends : Stations} {m n m′ n′ : ℕ} → m′ ≡ m → n′ ≡ n → Room gl al ends m n → Room gl al ends m′ n′

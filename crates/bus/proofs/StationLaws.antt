@@ -22,7 +22,8 @@ use Rattle.agreement.specs.declared.event.Event.{Event}
 use Rattle.agreement.specs.declared.event.Event.the-variants.{Step, Clock, Noise}
 use Rattle.agreement.specs.declared.event.Side.the-variants.{Gate, Antenna}
 use Rattle.agreement.specs.Start.{Job}
-use Rattle.agreement.specs.End.{Wire, queues, raised, arrived, front, behind, answerTo, wireAfter, registersAfter, End, end, firstDue, endAccess, endAfter, stepped}
+use Rattle.agreement.specs.End.{Wire, queues, raised, arrived, front, behind, answerTo, wireAfter, registersAfter}
+use Rattle.agreement.specs.End.{End, end, firstDue, endAccess, endAfter, stepped}
 use Rattle.agreement.specs.Events.{Pair, pair, rewired, clockedBy, happened}
 use Rattle.agreement.proofs.WordLists.{false-true}
 use Rattle.bus.specs.declared.fifo.Fifo.{Fifo}
@@ -86,10 +87,12 @@ same-word e u v (Send i) w h = ap (λ (n : ℕ). wireAfter e (λ k. n) (Send i) 
 same-word e u v (Receive i) w h = refl
 same-word e u v (Done x) w h = refl
 
-pub same-end : {t t′ : Transfer} {f f′ : Flush} {rs rs′ : List ℕ} {w w′ : Wire} {g g′ : List ℕ} → t ≡ t′ → f ≡ f′ → rs ≡ rs′ → w ≡ w′ → g ≡ g′ → end t f rs w g ≡ end t′ f′ rs′ w′ g′
+pub same-end : {t t′ : Transfer} {f f′ : Flush} {rs rs′ : List ℕ} {w w′ : Wire} {g g′ : List ℕ} → t ≡ t′ → f ≡ f′ → rs ≡ rs′
+    → w ≡ w′ → g ≡ g′ → end t f rs w g ≡ end t′ f′ rs′ w′ g′
 same-end a b c d e = cc
 
-pub step-is : (s : Station) (busy : Bool) (l : Link) (send words registers : List ℕ) (a : Access) (v word n : ℕ) (words′ registers′ : List ℕ) (t : Transfer) (f : Flush) (p : Port)
+pub step-is : (s : Station) (busy : Bool) (l : Link) (send words registers : List ℕ) (a : Access) (v word n : ℕ)
+    (words′ registers′ : List ℕ) (t : Transfer) (f : Flush) (p : Port)
     → a ≡ endAccess (s .transfer) (s .flush)
     → v ≡ answerTo (l .exponent) busy (wireOf (s .port)) registers a
     → word ≡ sentWord (wordIn (l .frame) send words (s .received)) a
@@ -98,16 +101,26 @@ pub step-is : (s : Station) (busy : Bool) (l : Link) (send words registers : Lis
     → t ≡ resumed (s .transfer) v → f ≡ flushNext (s .transfer) (s .flush) v
     → wireOf p ≡ wireAfter (l .exponent) (λ i. word) a (wireOf (s .port))
     → s .received ≤ length words → Stored s words
-    → endOf (record { transfer = t; flush = f; received = n; port = p }) words′ registers′ ≡ stepped (linkJob l send) busy (endOf s words registers)
+    → endOf (record { transfer = t; flush = f; received = n; port = p }) words′ registers′
+    ≡ stepped (linkJob l send) busy (endOf s words registers)
 unfolding stepped
 step-is s busy l send words registers a v word n words′ registers′ t f p ea ev ew eg en ews et ef ep within h =
-    subst (λ (x : Access). end t f (take n words′) (wireOf p) registers′ ≡ endAfter (linkJob l send) x (answerTo (l .exponent) busy (wireOf (s .port)) registers x) (endOf s words registers)) ea
+    subst
+    (λ (x : Access).
+    end t f (take n words′) (wireOf p) registers′
+    ≡ endAfter (linkJob l send) x (answerTo (l .exponent) busy (wireOf (s .port)) registers x) (endOf s words registers))
+    ea
     (same-end
     (et ∙ ap (resumed (s .transfer)) same)
     (ef ∙ ap (flushNext (s .transfer) (s .flush)) same)
-    (ap₂ take en ews ∙ stored-next a words (s .received) v (λ i e. h i (word-due (s .transfer) (s .flush) (Receive i) refl (sym ea ∙ e))) ∙ ap (λ (x : ℕ). receivedAfter a x (take (s .received) words)) ev)
-    (ep ∙ ap (λ (x : ℕ). wireAfter (l .exponent) (λ i. x) a (wireOf (s .port))) ew ∙ wire-sent (l .exponent) (wordIn (l .frame) send words (s .received)) a (wireOf (s .port))
-    ∙ same-word (l .exponent) (wordIn (l .frame) send words (s .received)) (linkJob l send .words (take (s .received) words)) a (wireOf (s .port))
+    (ap₂ take en ews
+    ∙ stored-next a words (s .received) v (λ i e. h i (word-due (s .transfer) (s .flush) (Receive i) refl (sym ea ∙ e)))
+    ∙ ap (λ (x : ℕ). receivedAfter a x (take (s .received) words)) ev)
+    (ep
+    ∙ ap (λ (x : ℕ). wireAfter (l .exponent) (λ i. x) a (wireOf (s .port))) ew
+    ∙ wire-sent (l .exponent) (wordIn (l .frame) send words (s .received)) a (wireOf (s .port))
+    ∙ same-word (l .exponent) (wordIn (l .frame) send words (s .received))
+    (linkJob l send .words (take (s .received) words)) a (wireOf (s .port))
     (λ i. word-taken (l .frame) send words (s .received) i within))
     (eg (linkJob l send .words (take (s .received) words))))
   where
@@ -130,7 +143,8 @@ pub same-pair : {x x′ y y′ : End} → x ≡ x′ → y ≡ y′ → pair x y
 same-pair a b = cc
 
 -- an end whose port came to that wire
-moved : (s s′ : Station) (p : Port) {w : Wire} → Ported s s′ p → wireOf p ≡ w → (words registers : List ℕ) → endOf s′ words registers ≡ rewired (λ x. w) (endOf s words registers)
+moved : (s s′ : Station) (p : Port) {w : Wire} → Ported s s′ p → wireOf p ≡ w → (words registers : List ℕ)
+    → endOf s′ words registers ≡ rewired (λ x. w) (endOf s words registers)
 moved s s′ p {w} e h words registers = ported s s′ p words registers e ∙ ap (λ (x : Wire). rewired (λ y. x) (endOf s words registers)) h
 
 module _ (eg ea : ℕ) (g a : Station) where
@@ -142,22 +156,29 @@ module _ (eg ea : ℕ) (g a : Station) where
   module _ (g′ a′ : Station) (gp ap′ : Port) (pg : Ported g g′ gp) (pa : Ported a a′ ap′) where
     -- the antenna has none: one is made up
     pub clock-made-up : (v : ℕ) (ours : List ℕ) → queueOf (g .port .transmit) ≡ v ∷ ours → queueOf (a .port .transmit) ≡ []
-        → wireOf gp ≡ arrived eg 0 (queues ours (queueOf (g .port .receive)) (wireOf (g .port))) → wireOf ap′ ≡ arrived ea v (raised Tx (wireOf (a .port)))
+        → wireOf gp ≡ arrived eg 0 (queues ours (queueOf (g .port .receive)) (wireOf (g .port)))
+        → wireOf ap′ ≡ arrived ea v (raised Tx (wireOf (a .port)))
         → Clocked eg ea g a (record { gate = g′; antenna = a′ })
     unfolding clockedBy
     clock-made-up v ours eo et wg wa = λ ws rs xs ys jg ja e₁ e₂.
-        same-pair (moved g g′ gp pg (wg ∙ ap (λ (e : ℕ). arrived e 0 (queues ours (queueOf (g .port .receive)) (wireOf (g .port)))) (sym e₁)) ws rs)
+        same-pair
+        (moved g g′ gp pg
+        (wg ∙ ap (λ (e : ℕ). arrived e 0 (queues ours (queueOf (g .port .receive)) (wireOf (g .port)))) (sym e₁)) ws rs)
         (moved a a′ ap′ pa (wa ∙ ap (λ (e : ℕ). arrived e v (raised Tx (wireOf (a .port)))) (sym e₂)) xs ys)
         ∙ ap₂ (λ (q r : List ℕ). clockedBy jg ja q r (pair (endOf g ws rs) (endOf a xs ys))) (sym eo) (sym et)
 
     -- a word each way
     pub clock-both : (v u : ℕ) (ours theirs : List ℕ) → queueOf (g .port .transmit) ≡ v ∷ ours → queueOf (a .port .transmit) ≡ u ∷ theirs
-        → wireOf gp ≡ arrived eg u (queues ours (queueOf (g .port .receive)) (wireOf (g .port))) → wireOf ap′ ≡ arrived ea v (queues theirs (queueOf (a .port .receive)) (wireOf (a .port)))
+        → wireOf gp ≡ arrived eg u (queues ours (queueOf (g .port .receive)) (wireOf (g .port)))
+        → wireOf ap′ ≡ arrived ea v (queues theirs (queueOf (a .port .receive)) (wireOf (a .port)))
         → Clocked eg ea g a (record { gate = g′; antenna = a′ })
     unfolding clockedBy
     clock-both v u ours theirs eo et wg wa = λ ws rs xs ys jg ja e₁ e₂.
-        same-pair (moved g g′ gp pg (wg ∙ ap (λ (e : ℕ). arrived e u (queues ours (queueOf (g .port .receive)) (wireOf (g .port)))) (sym e₁)) ws rs)
-        (moved a a′ ap′ pa (wa ∙ ap (λ (e : ℕ). arrived e v (queues theirs (queueOf (a .port .receive)) (wireOf (a .port)))) (sym e₂)) xs ys)
+        same-pair
+        (moved g g′ gp pg
+        (wg ∙ ap (λ (e : ℕ). arrived e u (queues ours (queueOf (g .port .receive)) (wireOf (g .port)))) (sym e₁)) ws rs)
+        (moved a a′ ap′ pa
+        (wa ∙ ap (λ (e : ℕ). arrived e v (queues theirs (queueOf (a .port .receive)) (wireOf (a .port)))) (sym e₂)) xs ys)
         ∙ ap₂ (λ (q r : List ℕ). clockedBy jg ja q r (pair (endOf g ws rs) (endOf a xs ys))) (sym eo) (sym et)
 
 -- ONE EVENT
@@ -170,7 +191,8 @@ module _ (jg ja : Job) (x y : End) (v : Event) where
   unfolding happened
   antenna-step-is busy y′ e h = rw e (ap (pair x) h)
 
-  pub clock-is : (p : Pair) → v ≡ Clock → p ≡ clockedBy jg ja (x .wire .transmit) (y .wire .transmit) (pair x y) → p ≡ happened jg ja (pair x y) v
+  pub clock-is : (p : Pair) → v ≡ Clock → p ≡ clockedBy jg ja (x .wire .transmit) (y .wire .transmit) (pair x y)
+      → p ≡ happened jg ja (pair x y) v
   unfolding happened
   clock-is p e h = rw e h
 
@@ -178,6 +200,7 @@ module _ (jg ja : Job) (x y : End) (v : Event) where
   unfolding happened
   gate-noise-is d x′ e h = rw e (ap (λ (z : End). pair z y) h)
 
-  pub antenna-noise-is : (d : Direction) (y′ : End) → v ≡ Noise Antenna d → y′ ≡ rewired (raised d) y → pair x y′ ≡ happened jg ja (pair x y) v
+  pub antenna-noise-is : (d : Direction) (y′ : End) → v ≡ Noise Antenna d → y′ ≡ rewired (raised d) y
+      → pair x y′ ≡ happened jg ja (pair x y) v
   unfolding happened
   antenna-noise-is d y′ e h = rw e (ap (pair x) h)

@@ -88,7 +88,8 @@ module _ (b : Entrant) (read write send : List ℕ) (ready : Prepared (widthBits
 
   word-sent : accepted s ≡ true → (rs : List ℕ) (i : ℕ) → linkJob (linkOf b) send .words rs i ≡ job s .words rs i
   word-sent ok rs i =
-      ap (λ (n : ℕ). wordIn (record { width = b .board .width; total = n; inplace = b .board .inplace }) send rs (length rs) i) (ready .length)
+      ap (λ (n : ℕ). wordIn (record { width = b .board .width; total = n; inplace = b .board .inplace }) send rs (length rs) i)
+      (ready .length)
       ∙ by-place (b .board .inplace) (packed ok i)
     where
       by-place : (p : Bool) → getD send i 0 ≡ wordAt o (elementBits s) (planBy p .total) (cond p read write) i
@@ -102,7 +103,8 @@ module _ (b : Entrant) (read write send : List ℕ) (ready : Prepared (widthBits
   link-of = record { exponent = refl; words = word-sent; room = λ ok. few-words (b .board .width) (total s) ok }
 
 -- AT FRESH
-pub fresh-end : (b : Entrant) (s : Station) (read write words : List ℕ) {registers : List ℕ} → Fresh b s → b .total ≡ total (startOf (b .board) read write)
+pub fresh-end : (b : Entrant) (s : Station) (read write words : List ℕ) {registers : List ℕ} → Fresh b s
+    → b .total ≡ total (startOf (b .board) read write)
     → registers ≡ freshRegisters → endOf s words registers ≡ freshEnd (startOf (b .board) read write)
 fresh-end b s read write words {registers} f en eg =
     let k = widthBits (b .board .width) in
@@ -140,7 +142,9 @@ module _ (k : ℕ) (g a : Entrant) (gr gw ar aw gs hs : List ℕ) (pg : Prepared
   linked {gl} {al} {m} {n} eg ea em en = record {
     fits = both-fit .1;
     gate = subst (λ (i : ℕ). LinkOf gateStart gl gs i) (sym em) (subst (λ (l : Link). LinkOf gateStart l gs 128) (sym eg) gate-link);
-    antenna = subst (λ (i : ℕ). LinkOf antennaStart al hs i) (sym en) (subst (λ (l : Link). LinkOf antennaStart l hs 128) (sym ea) antenna-link);
+    antenna =
+        subst (λ (i : ℕ). LinkOf antennaStart al hs i) (sym en)
+        (subst (λ (l : Link). LinkOf antennaStart l hs 128) (sym ea) antenna-link);
   }
 
 -- WHAT THE RUN OVER WORDS LEAVES, of boards that are refused and of boards that are not
@@ -161,17 +165,22 @@ module _ (k : ℕ) (s t : Start) (events : List ℕ) (r : Outcome) (gateWords an
         gate = record { station = stations .gate; registers = gateRegisters };
         antenna = record { station = stations .antenna; registers = antennaRegisters };
       }
-      → pairOf stations gateWords gateRegisters antennaWords antennaRegisters ≡ pairAfter s t (eventsOf events) → Ran k s t events r gateWords antennaWords
+      → pairOf stations gateWords gateRegisters antennaWords antennaRegisters ≡ pairAfter s t (eventsOf events)
+      → Ran k s t events r gateWords antennaWords
   ran-events stations gateRegisters antennaRegisters h e came = record {
     number = ap (λ (x : Outcome). x .number) e ∙ rw h;
     gate = ap (λ (x : Outcome). stateOf (x .gate)) e ∙ ap (λ (p : Pair). seen (p .gate)) came ∙ rw h;
     antenna = ap (λ (x : Outcome). stateOf (x .antenna)) e ∙ ap (λ (p : Pair). seen (p .antenna)) came ∙ rw h;
     gateReceived = ap (λ (x : Outcome). take (x .gate .station .received) gateWords) e ∙ ap (λ (p : Pair). p .gate .received) came ∙ rw h;
-    antennaReceived = ap (λ (x : Outcome). take (x .antenna .station .received) antennaWords) e ∙ ap (λ (p : Pair). p .antenna .received) came ∙ rw h;
+    antennaReceived =
+        ap (λ (x : Outcome). take (x .antenna .station .received) antennaWords) e
+        ∙ ap (λ (p : Pair). p .antenna .received) came
+        ∙ rw h;
   }
 
 -- DEMAND 3 of what the code holds
-pub agreement-left : (g a : Start) → unfit g a ≡ false → Elements (elementBits g) (started g) → Elements (elementBits a) (started a) → (bytes : List ℕ) (x y : Seen) (gateBuffer antennaBuffer : List ℕ)
+pub agreement-left : (g a : Start) → unfit g a ≡ false → Elements (elementBits g) (started g)
+    → Elements (elementBits a) (started a) → (bytes : List ℕ) (x y : Seen) (gateBuffer antennaBuffer : List ℕ)
     → x ≡ seen (pairAfter g a (eventsOf bytes) .gate) → y ≡ seen (pairAfter g a (eventsOf bytes) .antenna)
     → gateBuffer ≡ bufferOf g (pairAfter g a (eventsOf bytes) .gate) → antennaBuffer ≡ bufferOf a (pairAfter g a (eventsOf bytes) .antenna)
     → Agreement g a (eventsOf bytes) x y gateBuffer antennaBuffer
@@ -181,7 +190,9 @@ agreement-left g a fits small-g small-a bytes x y gb ab ex ey eg ea =
     subst (λ (u : Seen). Agreement g a vs u y gb ab) (sym ex)
     (subst (λ (u : Seen). Agreement g a vs (seen (p .gate)) u gb ab) (sym ey)
     (subst (λ (b : List ℕ). Agreement g a vs (seen (p .gate)) (seen (p .antenna)) b ab) (sym eg)
-    (subst (λ (b : List ℕ). Agreement g a vs (seen (p .gate)) (seen (p .antenna)) (bufferOf g (p .gate)) b) (sym ea) (agreement g a fits small-g small-a vs))))
+    (subst (λ (b : List ℕ). Agreement g a vs (seen (p .gate)) (seen (p .antenna)) (bufferOf g (p .gate)) b) (sym ea)
+    (agreement g a fits small-g small-a vs)))
+    )
 
 -- THE ENTRY, at every width: from what its parts promise to the whole
 left-eq : {n n′ : ℕ} {x x′ y y′ : Seen} {g g′ a a′ : List ℕ} → n ≡ n′ → x ≡ x′ → y ≡ y′ → g ≡ g′ → a ≡ a′
@@ -190,7 +201,8 @@ left-eq : {n n′ : ℕ} {x x′ y y′ : Seen} {g g′ a a′ : List ℕ} → n
 left-eq a b c d e = cc
 
 -- the words that came in as elements over the buffer
-buffer-left : (k : ℕ) (s : Start) (x : End) {o : BitOrder} {n : ℕ} {rs left : List ℕ} → elementBits s ≡ k → o ≡ s .board .driver .order → n ≡ total s
+buffer-left : (k : ℕ) (s : Start) (x : End) {o : BitOrder} {n : ℕ} {rs left : List ℕ} → elementBits s ≡ k
+    → o ≡ s .board .driver .order → n ≡ total s
     → rs ≡ x .received → left ≡ laid (unpackWords o k n rs) (s .read) → left ≡ bufferOf s x
 buffer-left k s x {o} {n} {rs} ek eo en er h =
     h
@@ -209,7 +221,8 @@ started-small k b read write e hr hw = subst (λ (n : ℕ). Elements n (cond (b 
     by-place true = hr
     by-place false = hw
 
-pub total-lent : (b : Board) (read write : List ℕ) {n : ℕ} → n ≡ totalBy (b .inplace) (length read) (length write) → n ≡ total (startOf b read write)
+pub total-lent : (b : Board) (read write : List ℕ) {n : ℕ} → n ≡ totalBy (b .inplace) (length read) (length write)
+    → n ≡ total (startOf b read write)
 total-lent b read write e = e ∙ sym (total-is (startOf b read write))
 
 module _ (k : ℕ) (g a : Board) (gr gw ar aw events : List ℕ) (r : Outcome) (gws aws gl al : List ℕ) {og oa : BitOrder} {n m : ℕ}
@@ -252,10 +265,13 @@ module _ (k : ℕ) (g a : Board) (gr gw ar aw events : List ℕ) (r : Outcome) (
     antenna-is = ran .antenna ∙ ap (λ (b : Bool). seen (ends b .antenna)) h
 
     gate-buffer : gl ≡ bufferOf ours (ends false .gate)
-    gate-buffer = buffer-left k ours (ends false .gate) gate-width eog en (ran .gateReceived ∙ ap (λ (b : Bool). ends b .gate .received) h) hg
+    gate-buffer =
+        buffer-left k ours (ends false .gate) gate-width eog en (ran .gateReceived ∙ ap (λ (b : Bool). ends b .gate .received) h) hg
 
     antenna-buffer : al ≡ bufferOf theirs (ends false .antenna)
-    antenna-buffer = buffer-left k theirs (ends false .antenna) antenna-width eoa em (ran .antennaReceived ∙ ap (λ (b : Bool). ends b .antenna .received) h) ha
+    antenna-buffer =
+        buffer-left k theirs (ends false .antenna) antenna-width eoa em
+        (ran .antennaReceived ∙ ap (λ (b : Bool). ends b .antenna .received) h) ha
 
     left-run : trialLeft r gl al ≡ trialOf k g a gr gw ar aw events
     left-run =
@@ -268,9 +284,16 @@ module _ (k : ℕ) (g a : Board) (gr gw ar aw events : List ℕ) (r : Outcome) (
     where
       by-test : (b : Bool) → refused k ours theirs ≡ b → Tried k g a gr gw ar aw events r gl al
       by-test true h =
-          record { same = left-refused h; agreement = λ z. let q : _≡_ {A = ℕ} 9 0 = ap (λ (b : Bool). cond b 9 0) (sym h) ∙ sym (ran .number) ∙ z in absurd (omega (arith, q)) }
+          record {
+            same = left-refused h;
+            agreement = λ z. let q : _≡_ {A = ℕ} 9 0 = ap (λ (b : Bool). cond b 9 0) (sym h) ∙ sym (ran .number) ∙ z in
+                absurd (omega (arith, q));
+          }
       by-test false h = record {
         same = left-run h;
-        agreement = λ z. agreement-left ours theirs (fits h) (started-small k g gr gw (gate-width h) small-gr small-gw) (started-small k a ar aw (antenna-width h) small-ar small-aw)
+        agreement =
+            λ z.
+            agreement-left ours theirs (fits h) (started-small k g gr gw (gate-width h) small-gr small-gw)
+            (started-small k a ar aw (antenna-width h) small-ar small-aw)
             events (stateOf (r .gate)) (stateOf (r .antenna)) gl al (gate-is h) (antenna-is h) (gate-buffer h) (antenna-buffer h);
       }

@@ -15,7 +15,13 @@ use crate::trial::Outcome;
 use words::width::Width;
 
 fn left(number: u32, ends: Stations, gate: [u32; 30], antenna: [u32; 30]) -> Outcome
-    ensures { λ r. ⌜ r ≡ record { number = number; gate = record { station = ends .gate; registers = gate }; antenna = record { station = ends .antenna; registers = antenna } } ⌝ }
+    ensures { λ r. ⌜ r
+        ≡ record {
+          number = number;
+          gate = record { station = ends .gate; registers = gate };
+          antenna = record
+              { station = ends .antenna; registers = antenna };
+        } ⌝ }
 {
     let g = ends.gate;
     let a = ends.antenna;

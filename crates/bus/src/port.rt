@@ -190,7 +190,8 @@ impl Port {
     // Without the first word to be sent.
     pub(crate) fn without_first(self) -> Self
         requires { ⌜ Roomy self ⌝ }
-        ensures { λ x. ⌜ Roomy x × (wireOf x ≡ queues (behind (queueOf (self .transmit))) (queueOf (self .receive)) (wireOf self)) ⌝ }
+        ensures { λ x. ⌜ Roomy x
+            × (wireOf x ≡ queues (behind (queueOf (self .transmit))) (queueOf (self .receive)) (wireOf self)) ⌝ }
     {
         let transmit = self.transmit;
         let receive = self.receive;

@@ -26,7 +26,8 @@ fn happen(
     gate_registers: &mut [u32; 30],
     antenna_registers: &mut [u32; 30],
 ) -> Stations
-    requires { ⌜ Room «gate_link» «antenna_link» stations (length (now «gate_words»)) (length (now «antenna_words»)) ⌝ }
+    requires { ⌜ Room «gate_link» «antenna_link» stations (length (now «gate_words»))
+        (length (now «antenna_words»)) ⌝ }
     ensures room { λ r. ⌜ Room «gate_link» «antenna_link» r (length (now («gate_words» .entry)))
         (length (now («antenna_words» .entry))) ⌝ }
     ensures happened { λ r. ⌜ (Stored (stations .gate) (now («gate_words» .entry))
@@ -85,7 +86,8 @@ pub(crate) fn run(
     gate_registers: &mut [u32; 30],
     antenna_registers: &mut [u32; 30],
 ) -> Stations
-    requires { ⌜ Room «gate_link» «antenna_link» stations (length (now «gate_words»)) (length (now «antenna_words»)) ⌝ }
+    requires { ⌜ Room «gate_link» «antenna_link» stations (length (now «gate_words»))
+        (length (now «antenna_words»)) ⌝ }
     ensures room { λ r. ⌜ Room «gate_link» «antenna_link» r (length (now («gate_words» .entry)))
         (length (now («antenna_words» .entry))) ⌝ }
     ensures after { λ r. ⌜ ((g a : Start)

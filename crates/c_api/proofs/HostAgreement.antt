@@ -59,9 +59,11 @@ module _ (w : Width) (gateDriver antennaDriver inplace gateExponent antennaExpon
       → Elements (widthBits w) antennaWrite → left .number ≡ 0
       → Agreement gateStart antennaStart (eventsOf events) (outcome .gate) (outcome .antenna) (left .gateRead) (left .antennaRead)
   host-agreement gr gw ar aw zero-number =
-      let taken : refused (widthBits w) gateStart antennaStart ≡ false = fits-by (refused (widthBits w) gateStart antennaStart) _ _ refl zero-number in
+      let taken : refused (widthBits w) gateStart antennaStart ≡ false =
+      fits-by (refused (widthBits w) gateStart antennaStart) _ _ refl zero-number in
       rw taken
-      (agreement gateStart antennaStart (fits-at w (unfit gateStart antennaStart) taken) (small (gateStart .board .inplace) gateRead gateWrite gr gw)
+      (agreement gateStart antennaStart (fits-at w (unfit gateStart antennaStart) taken)
+      (small (gateStart .board .inplace) gateRead gateWrite gr gw)
       (small (antennaStart .board .inplace) antennaRead antennaWrite ar aw) (eventsOf events))
 
   -- THE STATES: where the number is 0 and 136 words were lent, word i of the gate's 68 and of the antenna's

@@ -31,7 +31,8 @@ front : (xs ys : List ℕ) (n i : ℕ) → length xs ≡ n → i < n → getD (x
 front xs ys n i e h = List·getD-append xs ys 0 i (omega (arith, e))
 
 behind : (xs ys : List ℕ) (n i : ℕ) → length xs ≡ n → n ≤ i → getD (xs ++ ys) i 0 ≡ getD ys (i - n) 0
-behind xs ys n i e h = let q : i ≡ length xs + (i - n) = omega (arith, e) in ap (λ (k : ℕ). getD (xs ++ ys) k 0) q ∙ getD-append-add xs ys (i - n) 0
+behind xs ys n i e h =
+    let q : i ≡ length xs + (i - n) = omega (arith, e) in ap (λ (k : ℕ). getD (xs ++ ys) k 0) q ∙ getD-append-add xs ys (i - n) 0
 
 -- THE WORDS OF A STATE
 module _ (x : Seen) where
@@ -50,7 +51,10 @@ module _ (x : Seen) where
   pub length-state : length (stateWords x) ≡ 68
   length-state =
       length-append head (sends ++ (receives ++ rest))
-      ∙ ap (λ (n : ℕ). 6 + n) (length-append sends (receives ++ rest) ∙ ap₂ _+_ (length-filled 0 16 (x .wire .transmit)) (length-append receives rest ∙ ap₂ _+_ (length-filled 0 16 (x .wire .receive)) (length-filled 0 30 (x .registers))))
+      ∙ ap (λ (n : ℕ). 6 + n)
+      (length-append sends (receives ++ rest)
+      ∙ ap₂ _+_ (length-filled 0 16 (x .wire .transmit))
+      (length-append receives rest ∙ ap₂ _+_ (length-filled 0 16 (x .wire .receive)) (length-filled 0 30 (x .registers))))
 
   pub word-head : (i : ℕ) → i < 6 → getD (headWords (x .transfer) (x .flush) (x .wire)) i 0 ≡ getD (stateWords x) i 0
   word-head i h = sym (front head (sends ++ (receives ++ rest)) 6 i refl h)
@@ -102,12 +106,14 @@ tabulate-all (suc n) [] e = absurd (omega arith)
 tabulate-all (suc n) (x ∷ xs) e = ap (λ (l : List ℕ). x ∷ l) (tabulate-all n xs (omega arith))
 
 -- the loop's end
-pub shown : (n m : ℕ) (xs bs ws : List ℕ) → length xs ≡ m → n ≤ m → (n < m → length bs ≤ n) → ws ≡ laid (tabulate n (λ i. getD xs i 0)) bs → ws ≡ laid xs bs
+pub shown : (n m : ℕ) (xs bs ws : List ℕ) → length xs ≡ m → n ≤ m → (n < m → length bs ≤ n)
+    → ws ≡ laid (tabulate n (λ i. getD xs i 0)) bs → ws ≡ laid xs bs
 shown n m xs bs ws e h s ew =
     store-stop n m (λ i. getD xs i 0) (λ i. getD xs i 0) bs ws h s (λ i l. refl) ew ∙ ap (λ (l : List ℕ). laid l bs) (tabulate-all m xs e)
 
 -- WHAT GOES BACK, of boards made of numbers
-pub host-trial : (w : Width) (o : Outcome) (gateLeft antennaLeft : List ℕ) (g a : Board) (gateDriver antennaDriver inplace gateExponent antennaExponent : ℕ)
+pub host-trial : (w : Width) (o : Outcome) (gateLeft antennaLeft : List ℕ) (g a : Board)
+    (gateDriver antennaDriver inplace gateExponent antennaExponent : ℕ)
     (gateRead gateWrite antennaRead antennaWrite events state st : List ℕ) (n : ℕ)
     → g ≡ boardOf w gateDriver inplace gateExponent → a ≡ boardOf w antennaDriver (inplace / 2) antennaExponent
     → Tried (widthBits w) g a gateRead gateWrite antennaRead antennaWrite events o gateLeft antennaLeft
@@ -121,6 +127,8 @@ host-trial w o gateLeft antennaLeft g a gateDriver antennaDriver inplace gateExp
     (t .same ∙ ap₂ (λ (y z : Board). trialOf (widthBits w) y z gateRead gateWrite antennaRead antennaWrite events) p q)
 
 -- SIX WORDS
-pub six : {a a′ b b′ c c′ d d′ e e′ f f′ : ℕ} → a ≡ a′ → b ≡ b′ → c ≡ c′ → d ≡ d′ → e ≡ e′ → f ≡ f′ → _≡_ {A = List ℕ} (a ∷ b ∷ c ∷ d ∷ e ∷ f ∷ []) (a′ ∷ b′ ∷ c′ ∷ d′ ∷ e′ ∷ f′ ∷ [])
+pub six : {a a′ b b′ c c′ d d′ e e′ f f′ : ℕ} → a ≡ a′ → b ≡ b′ → c ≡ c′ → d ≡ d′ → e ≡ e′ → f ≡ f′
+    → _≡_ {A = List ℕ} (a ∷ b ∷ c ∷ d ∷ e ∷ f ∷ []) (a′ ∷ b′ ∷ c′ ∷ d′ ∷ e′ ∷ f′ ∷ [])
 six p q r s t u =
-    let cons : ℕ → List ℕ → List ℕ = λ x l. x ∷ l in ap₂ cons p (ap₂ cons q (ap₂ cons r (ap₂ cons s (ap₂ cons t (ap (λ (x : ℕ). x ∷ []) u)))))
+    let cons : ℕ → List ℕ → List ℕ = λ x l. x ∷ l in
+    ap₂ cons p (ap₂ cons q (ap₂ cons r (ap₂ cons s (ap₂ cons t (ap (λ (x : ℕ). x ∷ []) u)))))

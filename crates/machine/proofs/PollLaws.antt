@@ -20,7 +20,8 @@ module _ (d : Direction) (status param counts : ℕ) where
   settled : (x : Polled) → (Failed ≡ x → ⊥) → whole d status param counts ≡ x → Settled d status param counts x
   settled x n = by-test (failed d status) refl
     where
-      by-test : (b : Bool) → failed d status ≡ b → onward (cond b Failed (Next Sizes)) (fromSizes d param counts) ≡ x → Settled d status param counts x
+      by-test : (b : Bool) → failed d status ≡ b → onward (cond b Failed (Next Sizes)) (fromSizes d param counts) ≡ x
+          → Settled d status param counts x
       by-test true e h = absurd (n h)
       by-test false e h = record { first = rw e; second = refl; third = h }
 

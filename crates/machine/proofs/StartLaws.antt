@@ -23,7 +23,10 @@ Begun p w r = at p w r ≡ atStart r (w .command) (w .send) (w .receive)
 -- no word is done
 none-done : (w : Work) (r : Sequence) → w .sent ≡ 0 → w .received ≡ 0 → Begun (Space Status) w r
 none-done w r es er =
-    ap₂ (λ (m n : ℕ). at (Space Status) (record { command = w .command; send = w .send; receive = w .receive; sent = m; received = n }) r) es er
+    ap₂
+    (λ (m n : ℕ).
+    at (Space Status) (record { command = w .command; send = w .send; receive = w .receive; sent = m; received = n }) r)
+    es er
 
 by-stage : (p : Stage) (w : Work) (r : Sequence) → startsIn p ≡ true → w .sent ≡ 0 → w .received ≡ 0 → Begun p w r
 by-stage (Space Status) w r e es er = none-done w r es er

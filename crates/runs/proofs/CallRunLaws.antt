@@ -25,7 +25,8 @@ CallAt c script old first made used s log = At (callAccess c) (callAfter c) scri
 abbrev called : Ending → ℕ → ℕ → Sequence → Called
 called e made used s = record { ending = e; accesses = made; answers = used; sequence = s }
 
-module _ (c : Call) (d : Lpspi) (script old : List ℕ) (made used : ℕ) (s : Sequence) (log : List ℕ) (h : CallAt c script old (callStart c d) made used s log) where
+module _ (c : Call) (d : Lpspi) (script old : List ℕ) (made used : ℕ) (s : Sequence) (log : List ℕ)
+    (h : CallAt c script old (callStart c d) made used s log) where
   abbrev here : State Sequence
   here = callStates c d script made
 
@@ -35,16 +36,20 @@ module _ (c : Call) (d : Lpspi) (script old : List ℕ) (made used : ℕ) (s : S
   left-here budget e same ee =
       ap (λ (x : Ending). callLeft (called x made used s) log) ee
       ∙ ap₂ (λ (m n : ℕ). callLeft (called (endingOf (callAccess c s)) m n s) log) (sym (h .pairs)) (sym (h .answers))
-      ∙ ap₂ (λ (g : Sequence) (l : List ℕ). callLeft (called (endingOf (callAccess c g)) (length (here .log)) (here .used) g) l) (sym (h .machine)) (h .held)
+      ∙ ap₂ (λ (g : Sequence) (l : List ℕ). callLeft (called (endingOf (callAccess c g)) (length (here .log)) (here .used) g) l)
+      (sym (h .machine)) (h .held)
       ∙ ap (calledBy c old) (sym same)
 
   pub call-full : (budget : ℕ) (e : Ending) → made ≤ budget → budget ≤ made → e ≡ endingOf (callAccess c s)
       → callLeft (called e made used s) log ≡ calledBy c old (callStates c d script budget)
-  call-full budget e l n ee = left-here budget e (at-full (callAccess c) (callAfter c) script old (callStart c d) made used s log h budget l n) ee
+  call-full budget e l n ee =
+      left-here budget e (at-full (callAccess c) (callAfter c) script old (callStart c d) made used s log h budget l n) ee
 
-  pub call-halted : (budget : ℕ) (e : Ending) → made ≤ budget → halted (callAccess c s) used (length script) ≡ true → e ≡ endingOf (callAccess c s)
+  pub call-halted : (budget : ℕ) (e : Ending) → made ≤ budget → halted (callAccess c s) used (length script) ≡ true
+      → e ≡ endingOf (callAccess c s)
       → callLeft (called e made used s) log ≡ calledBy c old (callStates c d script budget)
-  call-halted budget e l stops ee = left-here budget e (at-halted (callAccess c) (callAfter c) script old (callStart c d) made used s log h budget l stops) ee
+  call-halted budget e l stops ee =
+      left-here budget e (at-halted (callAccess c) (callAfter c) script old (callStart c d) made used s log h budget l stops) ee
 
 -- number 5, or the run
 pub call-limits : (d : Lpspi) (c : Call) (budget : ℕ) (script log : List ℕ) (s : Sequence) → limits budget log ≡ true → s ≡ sequenceStart d

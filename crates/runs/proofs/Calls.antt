@@ -27,6 +27,9 @@ pub call-within : (d : Lpspi) (c : Call) (budget : ℕ) (script log : List ℕ) 
 unfolding callRun calledBy
 call-within d c budget script log = by-limits (limits budget log)
   where
-    by-limits : (b : Bool) → cond b (callLeft (record { ending = Limits; accesses = 0; answers = 0; sequence = sequenceStart d }) log) (calledBy c log (callStates c d script budget)) .called .accesses ≤ budget
+    by-limits : (b : Bool)
+        → cond b (callLeft (record { ending = Limits; accesses = 0; answers = 0; sequence = sequenceStart d }) log)
+        (calledBy c log (callStates c d script budget)) .called .accesses
+        ≤ budget
     by-limits true = omega arith
     by-limits false = omega (arith, run-log (callAccess c) (callAfter c) noWords script budget (start (callStart c d)))

@@ -49,16 +49,24 @@ ended-halted (Ended x) used answers e = refl
 
 -- THE LOOP: one turn
 module _ (script old : List ℕ) (n : ℕ) where
-  pub flush-next : (f g : Flush) (v : ℕ) (log log′ : List ℕ) → FlushAt script old n f log → ended (flushAccess f) ≡ false → n < length script → 2 * n + 1 < length old
+  pub flush-next : (f g : Flush) (v : ℕ) (log log′ : List ℕ) → FlushAt script old n f log → ended (flushAccess f) ≡ false
+      → n < length script → 2 * n + 1 < length old
       → v ≡ getD script n 0 → log′ ≡ put log n (codeOf (flushAccess f)) v → g ≡ flushed f v → FlushAt script old (n + 1) g log′
-  flush-next Status g v log log′ h e l r ev el eg = at-next flushAccess flushed script old Status n n Status log h (Read SR) v refl (lt-leb (length script) n l) ev g log′ r eg el
-  flush-next Sizes g v log log′ h e l r ev el eg = at-next flushAccess flushed script old Status n n Sizes log h (Read PARAM) v refl (lt-leb (length script) n l) ev g log′ r eg el
-  flush-next Counts g v log log′ h e l r ev el eg = at-next flushAccess flushed script old Status n n Counts log h (Read FSR) v refl (lt-leb (length script) n l) ev g log′ r eg el
+  flush-next Status g v log log′ h e l r ev el eg =
+      at-next flushAccess flushed script old Status n n Status log h (Read SR) v refl (lt-leb (length script) n l) ev g log′ r eg el
+  flush-next Sizes g v log log′ h e l r ev el eg =
+      at-next flushAccess flushed script old Status n n Sizes log h (Read PARAM) v refl
+      (lt-leb (length script) n l) ev g log′ r eg el
+  flush-next Counts g v log log′ h e l r ev el eg =
+      at-next flushAccess flushed script old Status n n Counts log h (Read FSR) v refl
+      (lt-leb (length script) n l) ev g log′ r eg el
   flush-next (Ended x) g v log log′ h e l r ev el eg = absurd (let z : _≡_ {A = ℕ} 0 1 = cc in omega arith)
 
   -- a read, and the flush goes on by its answer
-  pub flush-read : (f : Flush) (at v : ℕ) (log log′ : List ℕ) → FlushAt script old n f log → ended (flushAccess f) ≡ false → n < length script → 2 * n + 1 < length old
-      → at ≡ codeOf (flushAccess f) → v ≡ getD script n 0 → log′ ≡ put log n at (getD script n 0) → FlushAt script old (n + 1) (flushed f v) log′
+  pub flush-read : (f : Flush) (at v : ℕ) (log log′ : List ℕ) → FlushAt script old n f log → ended (flushAccess f) ≡ false
+      → n < length script → 2 * n + 1 < length old
+      → at ≡ codeOf (flushAccess f) → v ≡ getD script n 0 → log′ ≡ put log n at (getD script n 0)
+      → FlushAt script old (n + 1) (flushed f v) log′
   flush-read f at v log log′ h e l r ea ev el =
       flush-next f (flushed f v) v log log′ h e l r ev (el ∙ ap₂ (λ (x y : ℕ). put log n x y) ea (sym ev)) refl
 
@@ -85,7 +93,8 @@ some-left v e = rw e refl
 module _ (script old : List ℕ) (n : ℕ) (f : Flush) (log : List ℕ) (h : FlushAt script old n f log) where
   -- what the loop answers, and that it used as many answers
   abbrev LoopLeft : ℕ → Ending → Type 0
-  LoopLeft budget x = (flushLeft (record { ending = x; accesses = n }) log ≡ flushLoop script budget old) × (flushStates script budget .used ≡ n)
+  LoopLeft budget x =
+      (flushLeft (record { ending = x; accesses = n }) log ≡ flushLoop script budget old) × (flushStates script budget .used ≡ n)
 
   abbrev here : State Flush
   here = flushStates script n
@@ -93,9 +102,13 @@ module _ (script old : List ℕ) (n : ℕ) (f : Flush) (log : List ℕ) (h : Flu
   left-here : (budget : ℕ) (x : Ending) → flushStates script budget ≡ here → x ≡ endingOf (flushAccess f) → LoopLeft budget x
   unfolding flushLoop
   left-here budget x e ex = (
-    ap₂ (λ (y : Ending) (m : ℕ). flushLeft (record { ending = y; accesses = m }) log) (ex ∙ ap (λ (g : Flush). endingOf (flushAccess g)) (sym (h .machine))) (sym (h .pairs))
+    ap₂ (λ (y : Ending) (m : ℕ). flushLeft (record { ending = y; accesses = m }) log)
+        (ex ∙ ap (λ (g : Flush). endingOf (flushAccess g)) (sym (h .machine))) (sym (h .pairs))
         ∙ ap (flushLeft (record { ending = endingOf (flushAccess (here .machine)); accesses = length (here .log) })) (h .held)
-        ∙ ap (λ (s : State Flush). flushLeft (record { ending = endingOf (flushAccess (s .machine)); accesses = length (s .log) }) (logOver old (s .log))) (sym e),
+        ∙ ap
+        (λ (s : State Flush).
+        flushLeft (record { ending = endingOf (flushAccess (s .machine)); accesses = length (s .log) }) (logOver old (s .log)))
+        (sym e),
     ap (λ (s : State Flush). s .used) e ∙ h .answers,
   )
 
@@ -110,14 +123,22 @@ module _ (script old : List ℕ) (n : ℕ) (f : Flush) (log : List ℕ) (h : Flu
     where
       by-test : (t : Bool) → leb (length script) n ≡ t → flushStates script budget ≡ here
       by-test true t = halts budget l (reads-halted f n (length script) e ∙ t)
-      by-test false t = at-full flushAccess flushed script old Status n n f log h budget l (let b = leb-false (length script) n t in omega arith)
+      by-test false t =
+          at-full flushAccess flushed script old Status n n f log h budget l (let b = leb-false (length script) n t in omega arith)
 
 -- the call's result, from the loop's
-pub flush-result : (d : Lpspi) (script old : List ℕ) (budget : ℕ) (r : Flushed) (log : List ℕ) → limits budget old ≡ false → flushLeft r log ≡ flushLoop script budget old
+pub flush-result : (d : Lpspi) (script old : List ℕ) (budget : ℕ) (r : Flushed) (log : List ℕ) → limits budget old ≡ false
+    → flushLeft r log ≡ flushLoop script budget old
     → flushStates script budget .used ≡ r .accesses
     → left (record { ending = r .ending; accesses = r .accesses; answers = r .accesses; driver = d }) log ≡ flushRun d budget script old
 unfolding flushLoop
 flush-result d script old budget r log h e u =
     rw h
     (ap (λ (m : ℕ). left (record { ending = r .ending; accesses = r .accesses; answers = m; driver = d }) log) (sym u)
-    ∙ ap (λ (x : FlushLeft). left (record { ending = x .flushed .ending; accesses = x .flushed .accesses; answers = flushStates script budget .used; driver = d }) (x .log)) e)
+    ∙ ap
+    (λ (x : FlushLeft).
+    left
+    (record
+    { ending = x .flushed .ending; accesses = x .flushed .accesses; answers = flushStates script budget .used; driver = d })
+    (x .log))
+    e)

@@ -25,7 +25,8 @@ use Rattle.machine.specs.declared.transfer.Work.{Work}
 use Rattle.machine.specs.declared.transfer.Transfer.{Transfer}
 use Rattle.machine.specs.Poll.{pollAccess, polled}
 use Rattle.sequences.specs.Recovery.{recoveryAccess, recoveryAfter, recovered}
-use Rattle.machine.specs.Transfer.{at, startTransfer, sendTurn, receiveTurn, counted, oneSent, oneReceived, spaceBy, sendingBy, receivingBy, dueAccess, resumed}
+use Rattle.machine.specs.Transfer.{at, startTransfer, sendTurn, receiveTurn, counted, oneSent, oneReceived}
+use Rattle.machine.specs.Transfer.{spaceBy, sendingBy, receivingBy, dueAccess, resumed}
 use Rattle.runs.specs.Run.{State, start, halted, answerOf, receivedAfter, times, afterAccess, step, run}
 use Rattle.runs.proofs.PlainLaws.{kind, plain-keeps, poll-plain, recovery-plain}
 
@@ -60,7 +61,8 @@ pub record Placed (send receive : ℕ) (t : Transfer) (held : ℕ) : Type 0 wher
 send-turn : (w : Work) → w .sent ≤ w .send → w .received ≤ w .receive → Standing (sendTurn w) w
 send-turn w s r = by-test (ltb (w .sent) (w .send)) refl (ltb (w .received) (w .receive)) refl
   where
-    by-test : (t : Bool) → ltb (w .sent) (w .send) ≡ t → (u : Bool) → ltb (w .received) (w .receive) ≡ u → Standing (cond t (Sending Status) (cond u (Receiving Status) (Ended Ok))) w
+    by-test : (t : Bool) → ltb (w .sent) (w .send) ≡ t → (u : Bool) → ltb (w .received) (w .receive) ≡ u
+        → Standing (cond t (Sending Status) (cond u (Receiving Status) (Ended Ok))) w
     by-test true t u e = ltb-true (w .sent) (w .send) t
     by-test false t true e = ltb-true (w .received) (w .receive) e
     by-test false t false e = omega (arith, ltb-false (w .sent) (w .send) t, ltb-false (w .received) (w .receive) e)
@@ -68,7 +70,8 @@ send-turn w s r = by-test (ltb (w .sent) (w .send)) refl (ltb (w .received) (w .
 receive-turn : (w : Work) → w .sent ≤ w .send → w .received ≤ w .receive → Standing (receiveTurn w) w
 receive-turn w s r = by-test (ltb (w .received) (w .receive)) refl (ltb (w .sent) (w .send)) refl
   where
-    by-test : (t : Bool) → ltb (w .received) (w .receive) ≡ t → (u : Bool) → ltb (w .sent) (w .send) ≡ u → Standing (cond t (Receiving Status) (cond u (Sending Status) (Ended Ok))) w
+    by-test : (t : Bool) → ltb (w .received) (w .receive) ≡ t → (u : Bool) → ltb (w .sent) (w .send) ≡ u
+        → Standing (cond t (Receiving Status) (cond u (Sending Status) (Ended Ok))) w
     by-test true t u e = ltb-true (w .received) (w .receive) t
     by-test false t true e = ltb-true (w .sent) (w .send) e
     by-test false t false e = omega (arith, ltb-false (w .received) (w .receive) t, ltb-false (w .sent) (w .send) e)
@@ -104,7 +107,8 @@ counted-up n limit h = by-test (ltb n limit) refl
 
 module _ (send receive : ℕ) where
   -- the same words done: another phase
-  on : (p q : Stage) (w : Work) (r u : Sequence) (n : ℕ) → Placed send receive (at p w r) n → (w .sent ≤ w .send → w .received ≤ w .receive → Standing p w → Standing q w) → Placed send receive (at q w u) n
+  on : (p q : Stage) (w : Work) (r u : Sequence) (n : ℕ) → Placed send receive (at p w r) n
+      → (w .sent ≤ w .send → w .received ≤ w .receive → Standing p w → Standing q w) → Placed send receive (at q w u) n
   on p q w r u n h k =
       record {
         toSend = h .toSend;
@@ -118,9 +122,12 @@ module _ (send receive : ℕ) where
   placed-on : (p : Stage) (w : Work) (r : Sequence) (a v : ℕ) (rs : List ℕ) → Placed send receive (at p w r) (length rs)
       → Placed send receive (resumed (at p w r) a) (length (receivedAfter (dueAccess (at p w r)) v rs))
   unfolding dueAccess resumed
-  placed-on (Space p) w r a v rs h = rw (plain-keeps (pollAccess p) (poll-plain p) v rs) (on (Space p) _ w r r (length rs) h (λ s t u. space-turn (polled Tx p a) w u))
+  placed-on (Space p) w r a v rs h =
+      rw (plain-keeps (pollAccess p) (poll-plain p) v rs)
+      (on (Space p) _ w r r (length rs) h (λ s t u. space-turn (polled Tx p a) w u))
   placed-on Command w r a v rs h = on Command _ w r r (length rs) h (λ s t u. send-turn w s t)
-  placed-on (Sending p) w r a v rs h = rw (plain-keeps (pollAccess p) (poll-plain p) v rs) (on (Sending p) _ w r r (length rs) h (sending-turn (polled Tx p a) w))
+  placed-on (Sending p) w r a v rs h =
+      rw (plain-keeps (pollAccess p) (poll-plain p) v rs) (on (Sending p) _ w r r (length rs) h (sending-turn (polled Tx p a) w))
   placed-on Send w r a v rs h =
       let up : counted (w .sent) (w .send) ≡ w .sent + 1 = counted-up (w .sent) (w .send) (h .turn) in
       record {
@@ -131,7 +138,9 @@ module _ (send receive : ℕ) where
         holds = h .holds;
         turn = send-turn (oneSent w) (omega arith) (omega arith);
       }
-  placed-on (Receiving p) w r a v rs h = rw (plain-keeps (pollAccess p) (poll-plain p) v rs) (on (Receiving p) _ w r r (length rs) h (receiving-turn (polled Rx p a) w))
+  placed-on (Receiving p) w r a v rs h =
+      rw (plain-keeps (pollAccess p) (poll-plain p) v rs)
+      (on (Receiving p) _ w r r (length rs) h (receiving-turn (polled Rx p a) w))
   placed-on Receive w r a v rs h =
       let up : counted (w .received) (w .receive) ≡ w .received + 1 = counted-up (w .received) (w .receive) (h .turn) in
       record {
@@ -142,7 +151,9 @@ module _ (send receive : ℕ) where
         holds = omega (arith, length-append rs (v ∷ []));
         turn = receive-turn (oneReceived w) (omega arith) (omega arith);
       }
-  placed-on (Recovery d) w r a v rs h = rw (plain-keeps (recoveryAccess r) (recovery-plain r) v rs) (on (Recovery d) _ w r (recoveryAfter r a) (length rs) h (λ s t u. recovery-turn (recovered (recoveryAfter r a)) d w))
+  placed-on (Recovery d) w r a v rs h =
+      rw (plain-keeps (recoveryAccess r) (recovery-plain r) v rs)
+      (on (Recovery d) _ w r (recoveryAfter r a) (length rs) h (λ s t u. recovery-turn (recovered (recoveryAfter r a)) d w))
   placed-on (Ended e) w r a v rs h = h
 
   module _ (words : List ℕ → ℕ → ℕ) (script : List ℕ) where
@@ -151,10 +162,13 @@ module _ (send receive : ℕ) where
     unfolding step afterAccess
     placed-step s h = by-test (halted (dueAccess (s .machine)) (s .used) (length script))
       where
-        by-test : (t : Bool) → Placed send receive (cond t s (afterAccess dueAccess resumed words script (dueAccess (s .machine)) s) .machine) (length (cond t s (afterAccess dueAccess resumed words script (dueAccess (s .machine)) s) .received))
+        by-test : (t : Bool)
+            → Placed send receive (cond t s (afterAccess dueAccess resumed words script (dueAccess (s .machine)) s) .machine)
+            (length (cond t s (afterAccess dueAccess resumed words script (dueAccess (s .machine)) s) .received))
         by-test true = h
         by-test false =
-            placed-on (s .machine .phase) (s .machine .work) (s .machine .reset) (answerOf (dueAccess (s .machine)) (getD script (s .used) 0)) (getD script (s .used) 0) (s .received) h
+            placed-on (s .machine .phase) (s .machine .work) (s .machine .reset)
+            (answerOf (dueAccess (s .machine)) (getD script (s .used) 0)) (getD script (s .used) 0) (s .received) h
 
     pub placed-run : (n : ℕ) (s : State Transfer) → Placed send receive (s .machine) (length (s .received))
         → Placed send receive (run dueAccess resumed words script n s .machine) (length (run dueAccess resumed words script n s .received))
@@ -184,7 +198,8 @@ due-send Receive w r i h e = absurd (omega (arith, ap kind e))
 due-send (Recovery d) w r i h e = absurd (omega (arith, recovery-plain r, ap kind e))
 due-send (Ended x) w r i h e = absurd (omega (arith, ap kind e))
 
-due-receive : (p : Stage) (w : Work) (r : Sequence) (i : ℕ) → Standing p w → dueAccess (at p w r) ≡ ReceiveWord i → (i ≡ w .received) × (i < w .receive)
+due-receive : (p : Stage) (w : Work) (r : Sequence) (i : ℕ) → Standing p w → dueAccess (at p w r) ≡ ReceiveWord i
+    → (i ≡ w .received) × (i < w .receive)
 unfolding dueAccess
 due-receive (Space p) w r i h e = absurd (omega (arith, poll-plain p, ap kind e))
 due-receive Command w r i h e = absurd (omega (arith, ap kind e))
@@ -224,10 +239,13 @@ in-order send receive s h =
     }
 
 pub start-placed : (d : Lpspi) (command send receive : ℕ) → Placed send receive (startTransfer d command send receive) 0
-start-placed d command send receive = record { toSend = refl; toReceive = refl; sent = omega arith; received = omega arith; holds = refl; turn = (refl, refl) }
+start-placed d command send receive =
+    record { toSend = refl; toReceive = refl; sent = omega arith; received = omega arith; holds = refl; turn = (refl, refl) }
 
 -- EVERY STATE OF A RUN from the start of a transfer
 pub run-places : (d : Lpspi) (command send receive : ℕ) (words : List ℕ → ℕ → ℕ) (script : List ℕ) (n : ℕ)
     → InOrder send receive (run dueAccess resumed words script n (start (startTransfer d command send receive)))
 run-places d command send receive words script n =
-    in-order send receive _ (placed-run send receive words script n (start (startTransfer d command send receive)) (start-placed d command send receive))
+    in-order send receive _
+    (placed-run send receive words script n (start (startTransfer d command send receive))
+    (start-placed d command send receive))

@@ -46,16 +46,19 @@ uses-one (Done e) = omega arith
 
 module _ {M : Type 0} (next : M → Access) (resume : M → ℕ → M) (words : List ℕ → ℕ → ℕ) (script : List ℕ) where
   -- A RUN OF a + b ACCESSES is a run of a and then of b
-  pub run-add : (a b : ℕ) (s : State M) → run next resume words script (a + b) s ≡ run next resume words script b (run next resume words script a s)
+  pub run-add : (a b : ℕ) (s : State M)
+      → run next resume words script (a + b) s ≡ run next resume words script b (run next resume words script a s)
   run-add a b s = times-add (step next resume words script) a b s
 
   -- A HALTED MACHINE STAYS
-  pub run-halted : (n : ℕ) (s : State M) → halted (next (s .machine)) (s .used) (length script) ≡ true → run next resume words script n s ≡ s
+  pub run-halted : (n : ℕ) (s : State M) → halted (next (s .machine)) (s .used) (length script) ≡ true
+      → run next resume words script n s ≡ s
   unfolding step
   run-halted n s e = times-still (step next resume words script) n s (rw e)
 
   -- one access more
-  pub run-last : (n : ℕ) (s : State M) → run next resume words script (n + 1) s ≡ step next resume words script (run next resume words script n s)
+  pub run-last : (n : ℕ) (s : State M)
+      → run next resume words script (n + 1) s ≡ step next resume words script (run next resume words script n s)
   run-last n s = ap (λ (m : ℕ). times (step next resume words script) m s) (add-one n) ∙ times-last (step next resume words script) n s
 
   pub step-log : (s : State M) → length (step next resume words script s .log) ≤ length (s .log) + 1
@@ -64,7 +67,13 @@ module _ {M : Type 0} (next : M → Access) (resume : M → ℕ → M) (words : 
     where
       by-test : (t : Bool) → length (cond t s (afterAccess next resume words script (next (s .machine)) s) .log) ≤ length (s .log) + 1
       by-test true = omega arith
-      by-test false = omega (arith, length-append (s .log) (record { at = codeOf (next (s .machine)); value = valueOf (words (s .received)) (next (s .machine)) (getD script (s .used) 0) } ∷ []))
+      by-test false =
+          omega (
+            arith,
+            length-append (s .log)
+                (record
+                { at = codeOf (next (s .machine)); value = valueOf (words (s .received)) (next (s .machine)) (getD script (s .used) 0) } ∷ []),
+          )
 
   -- NEVER MORE ACCESSES THAN THE BUDGET
   pub run-log : (n : ℕ) (s : State M) → length (run next resume words script n s .log) ≤ length (s .log) + n
@@ -73,16 +82,28 @@ module _ {M : Type 0} (next : M → Access) (resume : M → ℕ → M) (words : 
   run-log (suc n) s = omega (arith, step-log s, run-log n (step next resume words script s))
 
   -- NO MORE ANSWERS USED THAN ACCESSES MADE
-  step-used : (s : State M) → s .used ≤ length (s .log) → step next resume words script s .used ≤ length (step next resume words script s .log)
+  step-used : (s : State M) → s .used ≤ length (s .log)
+      → step next resume words script s .used ≤ length (step next resume words script s .log)
   unfolding step afterAccess
   step-used s h = by-test (halted (next (s .machine)) (s .used) (length script))
     where
-      by-test : (t : Bool) → cond t s (afterAccess next resume words script (next (s .machine)) s) .used ≤ length (cond t s (afterAccess next resume words script (next (s .machine)) s) .log)
+      by-test : (t : Bool)
+          → cond t s (afterAccess next resume words script (next (s .machine)) s) .used
+          ≤ length (cond t s (afterAccess next resume words script (next (s .machine)) s) .log)
       by-test true = h
       by-test false =
-          omega (arith, uses-one (next (s .machine)), length-append (s .log) (record { at = codeOf (next (s .machine)); value = valueOf (words (s .received)) (next (s .machine)) (getD script (s .used) 0) } ∷ []))
+          omega (
+            arith,
+            uses-one (next (s .machine)),
+            length-append (s .log)
+                (record {
+                  at = codeOf (next (s .machine));
+                  value = valueOf (words (s .received)) (next (s .machine)) (getD script (s .used) 0);
+                } ∷ []),
+          )
 
-  pub run-used : (n : ℕ) (s : State M) → s .used ≤ length (s .log) → run next resume words script n s .used ≤ length (run next resume words script n s .log)
+  pub run-used : (n : ℕ) (s : State M) → s .used ≤ length (s .log)
+      → run next resume words script n s .used ≤ length (run next resume words script n s .log)
   unfolding times
   run-used zero s h = h
   run-used (suc n) s h = run-used n (step next resume words script s) (step-used s h)
@@ -106,7 +127,8 @@ set-two p rest x y a b m h =
 
 drop-two : (old : List ℕ) (m : ℕ) → m + 1 < length old → drop m old ≡ getD old m 0 ∷ getD old (m + 1) 0 ∷ drop (m + 2) old
 drop-two old m h =
-    rw (add-one m, add-two m) (drop-cons old m 0 (omega arith) ∙ ap (λ (l : List ℕ). getD old m 0 ∷ l) (drop-cons old (suc m) 0 (omega arith)))
+    rw (add-one m, add-two m)
+    (drop-cons old m 0 (omega arith) ∙ ap (λ (l : List ℕ). getD old m 0 ∷ l) (drop-cons old (suc m) 0 (omega arith)))
 
 pub log-put : (old : List ℕ) (l : List Logged) (a : Logged) → 2 * length l + 1 < length old
     → put (logOver old l) (length l) (a .at) (a .value) ≡ logOver old (l ++ (a ∷ []))

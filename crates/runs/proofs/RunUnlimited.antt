@@ -1,6 +1,5 @@
--- A run with no limit on accesses: there is one at most, every run with budget enough is it, and where a machine makes only so many writes in
--- a row, the script's length says which budget is enough.
--- Assumes nothing.
+-- A run with no limit on accesses: there is one at most, every run with budget enough is it, and where a machine makes only so many writes
+-- in a row, the script's length says which budget is enough. Assumes nothing.
 use Prim.Native.Nat.{ℕ, zero, suc, _+_, _-_, _*_, _<_, _≤_}
 use mathlib.Core.Bool.{Bool, true, false, cond}
 use mathlib.Core.List.{List}
@@ -21,7 +20,8 @@ one-read c d p q h = omega arith
 
 module _ {M : Type 0} (next : M → Access) (resume : M → ℕ → M) (words : List ℕ → ℕ → ℕ) (script : List ℕ) where
   -- A BUDGET THAT IS ENOUGH gives the unlimited run
-  pub unlimited-run : (s u : State M) (h : Unlimited next resume words script s u) (n : ℕ) → h .accesses ≤ n → run next resume words script n s ≡ u
+  pub unlimited-run : (s u : State M) (h : Unlimited next resume words script s u) (n : ℕ) → h .accesses ≤ n
+      → run next resume words script n s ≡ u
   unlimited-run s u h n l =
       let more = n - h .accesses in
       ap (λ (m : ℕ). run next resume words script m s) (let x : n ≡ h .accesses + (n - h .accesses) = omega arith in x)
@@ -53,10 +53,12 @@ module _ {M : Type 0} (next : M → Access) (resume : M → ℕ → M) (words : 
         let e : length script - s .used ≡ suc (length script - (s .used + 1)) = omega arith in
         rw e (one-read c (length script - (s .used + 1)) (pending (s .machine)) (pending m) (most m))
 
-    after-write : (s : State M) → pending (resume (s .machine) 0) < pending (s .machine) → (c + 1) * (length script - (s .used + 0)) + pending (resume (s .machine) 0) < due s
+    after-write : (s : State M) → pending (resume (s .machine) 0) < pending (s .machine)
+        → (c + 1) * (length script - (s .used + 0)) + pending (resume (s .machine) 0) < due s
     after-write s h = rw add-zero (omega arith)
 
-    due-moved : (a : Access) (s : State M) → next (s .machine) ≡ a → halted a (s .used) (length script) ≡ false → due (afterAccess next resume words script a s) < due s
+    due-moved : (a : Access) (s : State M) → next (s .machine) ≡ a → halted a (s .used) (length script) ≡ false
+        → due (afterAccess next resume words script a s) < due s
     unfolding afterAccess
     due-moved (Read g) s e h = after-read s _ (leb-false (length script) (s .used) h)
     due-moved (Write g v) s e h = after-write s (fewer (s .machine) (ap ended e) (ap usesOf e))
@@ -73,9 +75,12 @@ module _ {M : Type 0} (next : M → Access) (resume : M → ℕ → M) (words : 
         by-test : (t : Bool) → halts s ≡ t → halts s ≡ true
         by-test true t = t
         by-test false t = absurd (omega (arith, due-moved (next (s .machine)) s refl t))
-    run-over (suc n) s l = by-test (halts s) refl (λ (t : halts s ≡ false). run-over n (after s) (omega (arith, due-moved (next (s .machine)) s refl t)))
+    run-over (suc n) s l =
+        by-test (halts s) refl
+        (λ (t : halts s ≡ false). run-over n (after s) (omega (arith, due-moved (next (s .machine)) s refl t)))
       where
-        by-test : (t : Bool) → halts s ≡ t → (halts s ≡ false → halts (run next resume words script n (after s)) ≡ true) → halts (run next resume words script n (cond t s (after s))) ≡ true
+        by-test : (t : Bool) → halts s ≡ t → (halts s ≡ false → halts (run next resume words script n (after s)) ≡ true)
+            → halts (run next resume words script n (cond t s (after s))) ≡ true
         by-test true t k = rw (run-halted next resume words script n s t) t
         by-test false t k = k t
 

@@ -1,5 +1,5 @@
--- How many accesses are enough for a transfer and for a flush, whatever the script: from then on the run is the one with no limit on accesses.
--- Assumes nothing.
+-- How many accesses are enough for a transfer and for a flush, whatever the script: from then on the run is the one with no limit on
+-- accesses. Assumes nothing.
 use Prim.Native.Nat.{ℕ, zero, suc, _+_, _*_, _<_, _≤_, max}
 use mathlib.Core.Bool.{Bool, true, false, cond}
 use mathlib.Core.List.{List, [], _∷_}
@@ -16,7 +16,8 @@ use Rattle.machine.specs.declared.flush.Flush.{Flush}
 use Rattle.machine.specs.declared.flush.Flush.the-variants.{Status, Sizes, Counts, Ended as FlushEnded}
 use Rattle.machine.specs.declared.poll.Poll.the-variants.{Status as PollStatus, Sizes as PollSizes, Counts as PollCounts}
 use Rattle.sequences.specs.declared.sequence.Move.{Move}
-use Rattle.sequences.specs.declared.sequence.Move.the-variants.{Keep, KeepClock, Look, Wait, WaitClock, Size, Arrived, Modify, Set, Write as WriteMove, Put, End}
+use Rattle.sequences.specs.declared.sequence.Move.the-variants.{Keep, KeepClock, Look, Wait, WaitClock, Size, Arrived}
+use Rattle.sequences.specs.declared.sequence.Move.the-variants.{Modify, Set, Write as WriteMove, Put, End}
 use Rattle.sequences.specs.declared.sequence.Sequence.{Sequence}
 use Rattle.machine.specs.declared.transfer.Stage.{Stage}
 use Rattle.machine.specs.declared.transfer.Stage.the-variants.{Space, Command, Sending, Send, Receiving, Receive, Recovery, Ended}
@@ -66,7 +67,8 @@ recovery-leading : (i : ℕ) → leading (drop i recovery) ≤ 9
 recovery-leading i = leading-most recovery i
 
 -- at a write there is one more before the next read than after it
-leading-next : (l : List Move) (i : ℕ) → i < length l → writes (getD l i (recoveryMove 27)) ≡ true → leading (drop i l) ≡ suc (leading (drop (suc i) l))
+leading-next : (l : List Move) (i : ℕ) → i < length l → writes (getD l i (recoveryMove 27)) ≡ true
+    → leading (drop i l) ≡ suc (leading (drop (suc i) l))
 leading-next [] i h e = absurd (omega arith)
 leading-next (m ∷ l) zero h e = rw e
 leading-next (m ∷ l) (suc i) h e = leading-next l i (omega arith) e
@@ -110,18 +112,22 @@ recovery-write : (d : Direction) (r : Sequence) → writes (recoveryMove (r .pla
     → pendingIn (afterRecovery d (onward r)) (onward r .place) < 1 + leading (drop (r .place) recovery)
 recovery-write d r e = by-place (ltb (r .place) 27) refl
   where
-    by-done : (t : Bool) → r .place < 27 → pendingIn (cond t (Ended (Err (Fifo d))) (Recovery d)) (r .place + 1) < 1 + leading (drop (r .place) recovery)
+    by-done : (t : Bool) → r .place < 27
+        → pendingIn (cond t (Ended (Err (Fifo d))) (Recovery d)) (r .place + 1) < 1 + leading (drop (r .place) recovery)
     by-done true h = omega arith
     by-done false h =
         let fact = leading-next recovery (r .place) h e in
         rw (add-one (r .place)) (omega (arith, fact))
 
     by-place : (t : Bool) → ltb (r .place) 27 ≡ t
-        → pendingIn (cond (leb 27 (cond t (r .place + 1) (r .place))) (Ended (Err (Fifo d))) (Recovery d)) (cond t (r .place + 1) (r .place)) < 1 + leading (drop (r .place) recovery)
+        → pendingIn (cond (leb 27 (cond t (r .place + 1) (r .place))) (Ended (Err (Fifo d))) (Recovery d))
+        (cond t (r .place + 1) (r .place))
+        < 1 + leading (drop (r .place) recovery)
     by-place true t = by-done (leb 27 (r .place + 1)) (ltb-true (r .place) 27 t)
     by-place false t = rw (le-leb 27 (r .place) (ltb-false (r .place) 27 t)) (omega arith)
 
-recovery-fewer : (m : Move) (d : Direction) (r : Sequence) → recoveryMove (r .place) ≡ m → ended (moveAccess m r) ≡ false → usesOf (moveAccess m r) ≡ 0
+recovery-fewer : (m : Move) (d : Direction) (r : Sequence) → recoveryMove (r .place) ≡ m → ended (moveAccess m r) ≡ false
+    → usesOf (moveAccess m r) ≡ 0
     → pendingIn (afterRecovery d (moved m r 0)) (moved m r 0 .place) < 1 + leading (drop (r .place) recovery)
 recovery-fewer (Keep k) d r em e u = absurd (omega arith)
 recovery-fewer KeepClock d r em e u = absurd (omega arith)
@@ -136,7 +142,8 @@ recovery-fewer (WriteMove k w) d r em e u = recovery-write d r (ap writes em)
 recovery-fewer (Put k) d r em e u = recovery-write d r (ap writes em)
 recovery-fewer End d r em e u = absurd (let z : _≡_ {A = ℕ} 0 1 = cc in omega arith)
 
-fewer : (p : Stage) (w : Work) (r : Sequence) → ended (dueAccess (at p w r)) ≡ false → usesOf (dueAccess (at p w r)) ≡ 0 → pending (resumed (at p w r) 0) < pending (at p w r)
+fewer : (p : Stage) (w : Work) (r : Sequence) → ended (dueAccess (at p w r)) ≡ false → usesOf (dueAccess (at p w r)) ≡ 0
+    → pending (resumed (at p w r) 0) < pending (at p w r)
 unfolding dueAccess resumed pending
 fewer (Space PollStatus) w r e u = absurd (omega arith)
 fewer (Space PollSizes) w r e u = absurd (omega arith)
@@ -158,7 +165,8 @@ pub transfer-unlimited : (words : List ℕ → ℕ → ℕ) (script : List ℕ) 
     → Unlimited dueAccess resumed words script s (run dueAccess resumed words script n s)
 unfolding pending
 transfer-unlimited words script n s h =
-    run-unlimited dueAccess resumed words script pending 10 (λ (t : Transfer). pending-most (t .phase) (t .reset .place)) (λ (t : Transfer). fewer (t .phase) (t .work) (t .reset))
+    run-unlimited dueAccess resumed words script pending 10 (λ (t : Transfer). pending-most (t .phase) (t .reset .place))
+    (λ (t : Transfer). fewer (t .phase) (t .work) (t .reset))
     n s (omega (arith, pending-most (s .machine .phase) (s .machine .reset .place)))
 
 -- EVERY ACCESS OF A FLUSH IS A READ: length script are enough
@@ -171,5 +179,6 @@ flush-reads (FlushEnded x) e u = let z : _≡_ {A = ℕ} 0 1 = cc in omega arith
 pub flush-unlimited : (words : List ℕ → ℕ → ℕ) (script : List ℕ) (n : ℕ) (s : State Flush) → length script ≤ n
     → Unlimited flushAccess flushed words script s (run flushAccess flushed words script n s)
 flush-unlimited words script n s h =
-    run-unlimited flushAccess flushed words script (λ (f : Flush). 0) 0 (λ (f : Flush). omega arith) (λ (f : Flush) e u. absurd (flush-reads f e u))
+    run-unlimited flushAccess flushed words script (λ (f : Flush). 0) 0 (λ (f : Flush). omega arith)
+    (λ (f : Flush) e u. absurd (flush-reads f e u))
     n s (omega arith)

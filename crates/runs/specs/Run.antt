@@ -1,5 +1,5 @@
--- A run (document 01, Results by place of check): a machine, driven from a script under a budget, with its log. It is one definition for every
--- call: the machine M says which access is due (`next`) and goes on by its answer (`resume`).
+-- A run (document 01, Results by place of check): a machine, driven from a script under a budget, with its log. It is one definition
+-- for every call: the machine M says which access is due (`next`) and goes on by its answer (`resume`).
 -- Assumes nothing.
 use Prim.Native.Nat.{ℕ, zero, suc, _+_, _*_}
 use mathlib.Core.Bool.{Bool, true, false, cond, _||_}
@@ -159,7 +159,8 @@ logOver old l = flat l ++ drop (2 * length l) old
 -- a run that came to the state s; the driver value is as it was
 abbrev pub ran : {M : Type 0} → (M → Access) → Lpspi → List ℕ → State M → Left
 ran next d log s =
-    left (record { ending = endingOf (next (s .machine)); accesses = length (s .log); answers = s .used; driver = d }) (logOver log (s .log))
+    left (record { ending = endingOf (next (s .machine)); accesses = length (s .log); answers = s .used; driver = d })
+    (logOver log (s .log))
 
 -- the pair of an access, put into a log (private contracts cite it)
 abbrev pub put : List ℕ → ℕ → ℕ → ℕ → List ℕ

@@ -43,7 +43,8 @@ fn value_of(access: Access, value: u32) -> u32
 // A call within limits.
 fn run(call: Call, driver: Lpspi, budget: usize, script: &[u32], log: &mut [u32]) -> Called
     requires room { ⌜ 2 * budget ≤ length (now log) ⌝ }
-    ensures { λ r. ⌜ callLeft r (now (log .exit)) ≡ calledBy call (now (log .entry)) (callStates call driver (now (script .entry)) budget) ⌝ }
+    ensures { λ r. ⌜ callLeft r (now (log .exit))
+        ≡ calledBy call (now (log .entry)) (callStates call driver (now (script .entry)) budget) ⌝ }
 {
     let mut sequence = call.start(driver);
     let mut made: usize = 0;
@@ -72,7 +73,8 @@ fn run(call: Call, driver: Lpspi, budget: usize, script: &[u32], log: &mut [u32]
 
 // Number 5 with the driver value as it was, or the run.
 pub fn run_call(driver: Lpspi, call: Call, budget: usize, script: &[u32], log: &mut [u32]) -> Called
-    ensures { λ r. ⌜ callLeft r (now (log .exit)) ≡ callRun driver call budget (now (script .entry)) (now (log .entry)) ⌝ }
+    ensures { λ r. ⌜ callLeft r (now (log .exit))
+        ≡ callRun driver call budget (now (script .entry)) (now (log .entry)) ⌝ }
 {
     if limits(budget, log) {
         return Called {

@@ -81,7 +81,8 @@ fn value_of(
     received: usize,
     value: u32,
 ) -> u32
-    ensures { λ r. ⌜ r ≡ valueOf (wordIn frame (now («sent_words» .entry)) (now («received_words» .entry)) received) access value ⌝ }
+    ensures { λ r. ⌜ r
+        ≡ valueOf (wordIn frame (now («sent_words» .entry)) (now («received_words» .entry)) received) access value ⌝ }
 {
     match access {
         Access::Read(_) => value,
@@ -94,7 +95,8 @@ fn value_of(
 
 // A received word is stored after those before it. The words that are stored then.
 pub(crate) fn store(received_words: &mut [u32], received: usize, value: u32) -> usize
-    ensures { λ r. ⌜ (r ≡ counted received (length (now («received_words» .entry)))) × (now («received_words» .exit) ≡ set (now («received_words» .entry)) received value) ⌝ }
+    ensures { λ r. ⌜ (r ≡ counted received (length (now («received_words» .entry))))
+        × (now («received_words» .exit) ≡ set (now («received_words» .entry)) received value) ⌝ }
 {
     if received < received_words.len() {
         received_words[received] = value;
@@ -106,7 +108,8 @@ pub(crate) fn store(received_words: &mut [u32], received: usize, value: u32) -> 
 
 // What an access received is stored. The words that are stored then.
 pub fn keep(access: Access, received_words: &mut [u32], received: usize, value: u32) -> usize
-    ensures { λ r. ⌜ (r ≡ gotAfter access received (length (now («received_words» .entry)))) × (now («received_words» .exit) ≡ wordsAfter access (now («received_words» .entry)) received value) ⌝ }
+    ensures { λ r. ⌜ (r ≡ gotAfter access received (length (now («received_words» .entry))))
+        × (now («received_words» .exit) ≡ wordsAfter access (now («received_words» .entry)) received value) ⌝ }
 {
     match access {
         Access::Read(_) => received,
@@ -132,7 +135,10 @@ pub(crate) fn drive(
     requires within { ⌜ spot .made ≤ budget ⌝ }
     requires answered { ⌜ spot .used ≤ spot .made ⌝ }
     requires inside { ⌜ spot .received ≤ length (now «received_words») ⌝ }
-    ensures { λ r. ⌜ ((t : Machine) (old olds : List ℕ) → Stands frame (now (script .entry)) (now («sent_words» .entry)) old olds t transfer spot (now (log .entry)) (now («received_words» .entry)) → drivenLeft r (now (log .exit)) (now («received_words» .exit)) ≡ drivenBy old olds (wordsStates frame (now (script .entry)) (now («sent_words» .entry)) olds t budget)) ⌝ }
+    ensures { λ r. ⌜ ((t : Machine) (old olds : List ℕ)
+        → Stands frame (now (script .entry)) (now («sent_words» .entry)) old olds t transfer spot (now (log .entry))
+        (now («received_words» .entry)) → drivenLeft r (now (log .exit)) (now («received_words» .exit))
+        ≡ drivenBy old olds (wordsStates frame (now (script .entry)) (now («sent_words» .entry)) olds t budget)) ⌝ }
 {
     let mut t = transfer;
     let mut made = spot.made;

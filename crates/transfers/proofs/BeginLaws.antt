@@ -36,7 +36,8 @@ module _ (x : Width) (d : Lpspi) (ways : Ways) (total : ℕ) where
     pub begins-refused : (u : LpspiError) → t ≡ Refused u → {r : Transfer} → r ≡ endedTransfer d (Err FrameSize) → Begins r
     begins-refused u eu er = er ∙ rw (ne-eqb total 0 some, refused-size (bits * total) u (ap commandAnswer (sym eu) ∙ ec))
 
-    pub begins-made : (u : Transaction) → t ≡ Made u → {n plain command send receive : ℕ} → n ≡ wordCount bits total → plain ≡ driverCommand d (u .0)
+    pub begins-made : (u : Transaction) → t ≡ Made u → {n plain command send receive : ℕ} → n ≡ wordCount bits total
+        → plain ≡ driverCommand d (u .0)
         → command ≡ maskedBy ways plain → send ≡ sendsOf ways n → receive ≡ receivesOf ways n
         → {r : Transfer} → r ≡ startTransfer d command send receive → Begins r
     begins-made u eu {n} {plain} {command} {send} {receive} en ep em es er e =
@@ -45,4 +46,5 @@ module _ (x : Width) (d : Lpspi) (ways : Ways) (total : ℕ) where
         e
         ∙ ap₂ (startTransfer d command) (es ∙ ap (sendsOf ways) en) (er ∙ ap (receivesOf ways) en)
         ∙ rw (ne-eqb total 0 some, a .0)
-        (ap (λ (w : ℕ). startTransfer d w (sendsOf ways n′) (receivesOf ways n′)) (em ∙ ap (maskedBy ways) (ep ∙ ap (driverCommand d) (a .1))))
+        (ap (λ (w : ℕ). startTransfer d w (sendsOf ways n′) (receivesOf ways n′))
+        (em ∙ ap (maskedBy ways) (ep ∙ ap (driverCommand d) (a .1))))

@@ -55,5 +55,6 @@ module _ (k : ℕ) (d : Lpspi) (p : Plan) (budget : ℕ) (script : List ℕ) whe
           }
 
   -- WITH BUDGET ENOUGH FOR ITS SCRIPT a call leaves what its run comes to with no limit on accesses
-  pub call-unlimited : 11 * (length script + 1) ≤ budget → Unlimited dueAccess resumed (p .words) script (start (begun k d p)) (transferStates k d p script budget)
+  pub call-unlimited : 11 * (length script + 1) ≤ budget
+      → Unlimited dueAccess resumed (p .words) script (start (begun k d p)) (transferStates k d p script budget)
   call-unlimited h = transfer-unlimited (p .words) script budget (start (begun k d p)) h

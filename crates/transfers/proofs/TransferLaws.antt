@@ -58,7 +58,8 @@ accepted-words U32 total a = let b = accepted-between (32 * total) a in omega ar
 pub stored-elements : (o : BitOrder) (k total : ℕ) (rs olds : List ℕ) → 0 < perWord k → wordCount k total ≤ length olds
     → unpackWords o k total (take (stored rs olds) (laid rs olds)) ≡ unpackWords o k total rs
 stored-elements o k total rs olds more places =
-    ap (unpackWords o k total) (take-laid rs olds (stored rs olds) (omega arith) (omega arith)) ∙ by-test (leb (length rs) (length olds)) refl
+    ap (unpackWords o k total) (take-laid rs olds (stored rs olds) (omega arith) (omega arith))
+    ∙ by-test (leb (length rs) (length olds)) refl
   where
     by-test : (b : Bool) → leb (length rs) (length olds) ≡ b → unpackWords o k total (take (stored rs olds) rs) ≡ unpackWords o k total rs
     by-test true e = let l = leb-true (length rs) (length olds) e in ap (unpackWords o k total) (take-all (stored rs olds) rs (omega arith))
@@ -71,7 +72,8 @@ cut-past k total i w h =
     ap (λ (c : ℕ). w % 2 ^ (k * c)) none ∙ ap (λ (e : ℕ). w % 2 ^ e) (mul-zero k) ∙ mod-one w
 
 module _ (f : Frame) (o : BitOrder) (total : ℕ) (xs zeros : List ℕ) (blank : (j : ℕ) → getD zeros j 0 ≡ 0)
-    (places : wordCount (widthBits (f .width)) total ≤ length zeros) (send : List ℕ) (es : send ≡ laid (packWords o (widthBits (f .width)) total xs) zeros) where
+    (places : wordCount (widthBits (f .width)) total ≤ length zeros) (send : List ℕ)
+    (es : send ≡ laid (packWords o (widthBits (f .width)) total xs) zeros) where
   abbrev k : ℕ
   k = widthBits (f .width)
 
@@ -87,7 +89,8 @@ module _ (f : Frame) (o : BitOrder) (total : ℕ) (xs zeros : List ℕ) (blank :
       → sentFrom f send olds rs i ≡ wordAt o k total (laid (unpackWords o k total rs) xs) i
   sent-in-place e et ex olds rs i eo = rw (e, et) (by-test (ltb i (stored rs olds)) refl) ∙ sym (in-place-word o k total i rs xs ex)
     where
-      past : (b : Bool) → ltb i (length rs) ≡ b → stored rs olds ≤ i → wordAt o k total xs i ≡ cond b (cutWord k total i (getD rs i 0)) (wordAt o k total xs i)
+      past : (b : Bool) → ltb i (length rs) ≡ b → stored rs olds ≤ i
+          → wordAt o k total xs i ≡ cond b (cutWord k total i (getD rs i 0)) (wordAt o k total xs i)
       past true t m =
           let l = ltb-true i (length rs) t in
           let p = total-ends k total i (holds-one (f .width)) (omega arith) in
@@ -95,7 +98,8 @@ module _ (f : Frame) (o : BitOrder) (total : ℕ) (xs zeros : List ℕ) (blank :
       past false t m = refl
 
       by-test : (b : Bool) → ltb i (stored rs olds) ≡ b
-          → cond b (cutWord k total i (getD (laid rs olds) i 0)) (getD send i 0) ≡ cond (ltb i (length rs)) (cutWord k total i (getD rs i 0)) (wordAt o k total xs i)
+          → cond b (cutWord k total i (getD (laid rs olds) i 0)) (getD send i 0)
+          ≡ cond (ltb i (length rs)) (cutWord k total i (getD rs i 0)) (wordAt o k total xs i)
       by-test true t =
           let l = ltb-true i (stored rs olds) t in
           rw (lt-ltb i (length rs) (omega arith)) (ap (cutWord k total i) (laid-at rs olds i (omega arith) (omega arith)))

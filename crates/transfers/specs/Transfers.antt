@@ -18,8 +18,8 @@ use Rattle.machine.specs.Transfer.{startTransfer, endedTransfer, dueAccess, res
 use Rattle.runs.specs.declared.result.RunResult.{RunResult}
 use Rattle.runs.specs.Run.{State, Left, left, limits, overLimits, run, start, ran}
 
--- what a transfer is: its total length in elements, what is set in its command beside what the driver sets, the FIFO words that it sends and
--- receives, and the word sent at a place, by the words received so far
+-- what a transfer is: its total length in elements, what is set in its command beside what the driver sets, the FIFO words that it sends
+-- and receives, and the word sent at a place, by the words received so far
 pub record Plan : Type 0 where
   pub total : ℕ
   pub command : ℕ → ℕ
@@ -32,7 +32,8 @@ abbrev pub begun : ℕ → Lpspi → Plan → Transfer
 begun k d p =
     let f = k * p .total in
     cond (eqb (p .total) 0) (endedTransfer d Ok)
-    (cond (frameAccepted f) (startTransfer d (commanded (λ w. p .command (driverCommand d w)) f .value) (p .send) (p .receive)) (endedTransfer d (Err FrameSize)))
+    (cond (frameAccepted f) (startTransfer d (commanded (λ w. p .command (driverCommand d w)) f .value) (p .send) (p .receive))
+    (endedTransfer d (Err FrameSize)))
 
 -- what a transfer leaves: what every call leaves, and its buffer
 pub record TransferLeft : Type 0 where
@@ -56,7 +57,13 @@ transferred k d p buffer budget script log =
 abbrev pub separatePlan : ℕ → Lpspi → List ℕ → List ℕ → Plan
 separatePlan k d read write =
     let total = max (length read) (length write) in
-    record { total = total; command = λ w. w; send = wordCount k total; receive = wordCount k total; words = λ rs. wordAt (d .order) k total write }
+    record {
+      total = total;
+      command = λ w. w;
+      send = wordCount k total;
+      receive = wordCount k total;
+      words = λ rs. wordAt (d .order) k total write;
+    }
 
 -- in place, an element already received over is sent as received
 abbrev pub inPlacePlan : ℕ → Lpspi → List ℕ → Plan
@@ -74,7 +81,13 @@ inPlacePlan k d buf =
 abbrev pub writePlan : ℕ → Lpspi → List ℕ → Plan
 writePlan k d buf =
     let total = length buf in
-    record { total = total; command = setFlag RXMSK true; send = wordCount k total; receive = 0; words = λ rs. wordAt (d .order) k total buf }
+    record {
+      total = total;
+      command = setFlag RXMSK true;
+      send = wordCount k total;
+      receive = 0;
+      words = λ rs. wordAt (d .order) k total buf;
+    }
 
 -- sets TXMSK and only receives
 abbrev pub readPlan : ℕ → Lpspi → List ℕ → Plan

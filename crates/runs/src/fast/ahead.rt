@@ -31,7 +31,8 @@ pub(crate) struct Reached {
 // Polls for a place for the command, and the command.
 fn wait_for_space(command: u32, budget: usize, script: &[u32], log: &mut [u32]) -> Spaced
     requires room { ⌜ 2 * budget ≤ length (now log) ⌝ }
-    ensures { λ r. ⌜ (r .spot .made ≤ budget) × (r .spot .used ≤ r .spot .made) × (r .spot .received ≡ 0) × Waited command (now (script .entry)) (spot 0 0 0) (now (log .entry)) r (now (log .exit)) ⌝ }
+    ensures { λ r. ⌜ (r .spot .made ≤ budget) × (r .spot .used ≤ r .spot .made) × (r .spot .received ≡ 0)
+        × Waited command (now (script .entry)) (spot 0 0 0) (now (log .entry)) r (now (log .exit)) ⌝ }
 {
     let mut made: usize = 0;
     let mut used: usize = 0;

@@ -119,7 +119,8 @@ fn has_more(side: Direction, count: Count, sent: usize, received: usize) -> bool
 
 // A side that has ended is passed over.
 fn pass(t: Turns, count: Count) -> Turns
-    ensures { λ r. ⌜ r ≡ record { side = dueSide (t .side) count (t .sent) (t .spot .received); sent = t .sent; spot = t .spot } ⌝ }
+    ensures { λ r. ⌜ r
+        ≡ record { side = dueSide (t .side) count (t .sent) (t .spot .received); sent = t .sent; spot = t .spot } ⌝ }
 {
     let side = t.side;
     let s = t.spot;
@@ -168,8 +169,18 @@ fn send_word(
     sent_words: &[u32],
     received_words: &[u32],
 ) -> Turns
-    requires { ⌜ (2 * (t .spot .made + 4) ≤ length (now log)) × (t .spot .used ≤ t .spot .made) × (t .sent ≤ t .spot .made) ⌝ }
-    ensures { λ r. ⌜ (r ≡ record { side = t .side; sent = t .sent + 1; spot = spot (t .spot .made + 4) (t .spot .used + 3) (t .spot .received) }) × (now (log .exit) ≡ put (now (log .entry)) (t .spot .made + 3) (0x1000 + offsetOf TDR) (wordIn frame (now («sent_words» .entry)) (now («received_words» .entry)) (t .spot .received) (t .sent))) ⌝ }
+    requires { ⌜ (2 * (t .spot .made + 4) ≤ length (now log)) × (t .spot .used ≤ t .spot .made)
+        × (t .sent ≤ t .spot .made) ⌝ }
+    ensures { λ r. ⌜ (r
+        ≡ record {
+          side = t .side;
+          sent = t .sent + 1;
+          spot = spot (t .spot .made + 4) (t .spot .used + 3) (t .spot .received);
+        })
+        ×
+        (now (log .exit)
+        ≡ put (now (log .entry)) (t .spot .made + 3) (0x1000 + offsetOf TDR)
+        (wordIn frame (now («sent_words» .entry)) (now («received_words» .entry)) (t .spot .received) (t .sent))) ⌝ }
 {
     let s = t.spot;
     let side = t.side;
@@ -188,8 +199,23 @@ fn send_word(
 
 // The word after a poll of the receiving side.
 fn receive_word(t: Turns, script: &[u32], log: &mut [u32], received_words: &mut [u32]) -> Turns
-    requires { ⌜ (2 * (t .spot .made + 4) ≤ length (now log)) × (t .spot .used + 4 ≤ length (now script)) × (t .spot .used ≤ t .spot .made) ⌝ }
-    ensures { λ r. ⌜ (r ≡ record { side = t .side; sent = t .sent; spot = spot (t .spot .made + 4) (t .spot .used + 4) (counted (t .spot .received) (length (now («received_words» .entry)))) }) × (now (log .exit) ≡ put (now (log .entry)) (t .spot .made + 3) (offsetOf RDR) (getD (now (script .entry)) (t .spot .used + 3) 0)) × (now («received_words» .exit) ≡ set (now («received_words» .entry)) (t .spot .received) (getD (now (script .entry)) (t .spot .used + 3) 0)) ⌝ }
+    requires { ⌜ (2 * (t .spot .made + 4) ≤ length (now log)) × (t .spot .used + 4 ≤ length (now script))
+        × (t .spot .used ≤ t .spot .made) ⌝ }
+    ensures { λ r. ⌜ (r
+        ≡ record {
+          side = t .side;
+          sent = t .sent;
+          spot = spot (t .spot .made + 4) (t .spot .used + 4)
+              (counted (t .spot .received) (length (now («received_words» .entry))));
+        })
+        ×
+        (now (log .exit)
+        ≡ put (now (log .entry)) (t .spot .made + 3) (offsetOf RDR)
+        (getD (now (script .entry)) (t .spot .used + 3) 0))
+        ×
+        (now («received_words» .exit)
+        ≡ set (now («received_words» .entry)) (t .spot .received)
+        (getD (now (script .entry)) (t .spot .used + 3) 0)) ⌝ }
 {
     let s = t.spot;
     let side = t.side;
@@ -210,7 +236,13 @@ fn receive_word(t: Turns, script: &[u32], log: &mut [u32], received_words: &mut 
 // After a poll that was not ready it is the other side's turn.
 fn wait(t: Turns) -> Turns
     requires { ⌜ (t .spot .made + 4 < 18446744073709551616) × (t .spot .used ≤ t .spot .made) ⌝ }
-    ensures { λ r. ⌜ r ≡ record { side = otherSide (t .side); sent = t .sent; spot = spot (t .spot .made + 3) (t .spot .used + 3) (t .spot .received) } ⌝ }
+    ensures { λ r. ⌜ r
+        ≡ record {
+          side = otherSide (t .side);
+          sent = t .sent;
+          spot = spot (t .spot .made + 3) (t .spot .used + 3)
+              (t .spot .received);
+        } ⌝ }
 {
     let s = t.spot;
     let side = t.side;
@@ -237,7 +269,9 @@ fn send_turn(
 ) -> Turn
     requires within { ⌜ Within budget (length (now «received_words»)) t ⌝ }
     requires room { ⌜ 2 * budget ≤ length (now log) ⌝ }
-    ensures { λ r. ⌜ ((n : Counts) → isDue Direction.Tx n t ≡ true → Turned frame (now (script .entry)) (now («sent_words» .entry)) n budget t (now (log .entry)) (now («received_words» .entry)) (now (log .exit)) (now («received_words» .entry)) r) ⌝ }
+    ensures { λ r. ⌜ ((n : Counts) → isDue Direction.Tx n t ≡ true
+        → Turned frame (now (script .entry)) (now («sent_words» .entry)) n budget t (now (log .entry))
+        (now («received_words» .entry)) (now (log .exit)) (now («received_words» .entry)) r) ⌝ }
 {
     let s = t.spot;
     match poll(Direction::Tx, s.made, s.used, budget, script, log) {
@@ -257,7 +291,10 @@ fn receive_turn(
 ) -> Turn
     requires within { ⌜ Within budget (length (now «received_words»)) t ⌝ }
     requires room { ⌜ 2 * budget ≤ length (now log) ⌝ }
-    ensures { λ r. ⌜ ((f : Frames) (send : List ℕ) (n : Counts) → isDue Direction.Rx n t ≡ true → n .receive ≤ length (now («received_words» .entry)) → Turned f (now (script .entry)) send n budget t (now (log .entry)) (now («received_words» .entry)) (now (log .exit)) (now («received_words» .exit)) r) ⌝ }
+    ensures { λ r. ⌜ ((f : Frames) (send : List ℕ) (n : Counts) → isDue Direction.Rx n t ≡ true
+        → n .receive ≤ length (now («received_words» .entry))
+        → Turned f (now (script .entry)) send n budget t (now (log .entry)) (now («received_words» .entry))
+        (now (log .exit)) (now («received_words» .exit)) r) ⌝ }
 {
     let s = t.spot;
     match poll(Direction::Rx, s.made, s.used, budget, script, log) {
@@ -280,7 +317,9 @@ fn send_turns(
 ) -> Turns
     requires within { ⌜ Within budget (length (now «received_words»)) first ⌝ }
     requires room { ⌜ 2 * budget ≤ length (now log) ⌝ }
-    ensures { λ r. ⌜ Within budget (length (now («received_words» .entry))) r × Onward frame (now (script .entry)) (now («sent_words» .entry)) count first (now (log .entry)) (now («received_words» .entry)) r (now (log .exit)) (now («received_words» .entry)) ⌝ }
+    ensures { λ r. ⌜ Within budget (length (now («received_words» .entry))) r
+        × Onward frame (now (script .entry)) (now («sent_words» .entry)) count first (now (log .entry))
+        (now («received_words» .entry)) r (now (log .exit)) (now («received_words» .entry)) ⌝ }
 {
     let mut t = first;
     loop {
@@ -311,7 +350,11 @@ fn receive_turns(
     requires within { ⌜ Within budget (length (now «received_words»)) first ⌝ }
     requires room { ⌜ 2 * budget ≤ length (now log) ⌝ }
     requires places { ⌜ count .receive ≤ length (now «received_words») ⌝ }
-    ensures { λ r. ⌜ Within budget (length (now («received_words» .entry))) r × ((f : Frames) (send : List ℕ) → Onward f (now (script .entry)) send count first (now (log .entry)) (now («received_words» .entry)) r (now (log .exit)) (now («received_words» .exit))) ⌝ }
+    ensures { λ r. ⌜ Within budget (length (now («received_words» .entry))) r
+        ×
+        ((f : Frames) (send : List ℕ)
+        → Onward f (now (script .entry)) send count first (now (log .entry)) (now («received_words» .entry)) r
+        (now (log .exit)) (now («received_words» .exit))) ⌝ }
 {
     let mut t = first;
     loop {
@@ -344,7 +387,9 @@ pub(crate) fn take_turns(
     requires within { ⌜ Within budget (length (now «received_words»)) first ⌝ }
     requires room { ⌜ 2 * budget ≤ length (now log) ⌝ }
     requires places { ⌜ count .receive ≤ length (now «received_words») ⌝ }
-    ensures { λ r. ⌜ Within budget (length (now («received_words» .entry))) r × Onward frame (now (script .entry)) (now («sent_words» .entry)) count first (now (log .entry)) (now («received_words» .entry)) r (now (log .exit)) (now («received_words» .exit)) ⌝ }
+    ensures { λ r. ⌜ Within budget (length (now («received_words» .entry))) r
+        × Onward frame (now (script .entry)) (now («sent_words» .entry)) count first (now (log .entry))
+        (now («received_words» .entry)) r (now (log .exit)) (now («received_words» .exit)) ⌝ }
 {
     let mut t = first;
     loop {

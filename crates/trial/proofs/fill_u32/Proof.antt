@@ -13,49 +13,19 @@ Inv-loop inplace line to₀ i₀ i-end to i = (i ≤ i-end) × (length to ≡ le
 abbrev μ-loop : tie.MeasureT-loop
 μ-loop inplace line to₀ i₀ i-end to i = i-end - i
 
-loop-holds : tie.Need-loop-holds Inv-loop μ-loop
-loop-holds c = search needs
-
-start-at-requires : tie.Need-start-at-requires Inv-loop μ-loop
-start-at-requires c κs = search needs
-
-cast-to : tie.Need-cast-to Inv-loop μ-loop
-cast-to c = search needs
-
-mul-to : tie.Need-mul-to Inv-loop μ-loop
-mul-to c = search needs
-
-slice-write-to : tie.Need-slice-write-to Inv-loop μ-loop
-slice-write-to c = search needs
-
-add-i : tie.Need-add-i Inv-loop μ-loop
-add-i c = search needs
-
-loop-less : tie.Need-loop-less Inv-loop μ-loop
-loop-less c = search needs
-
-loop-again : tie.Need-loop-again Inv-loop μ-loop
-loop-again c = search needs
-
-same-length : tie.Need-same-length Inv-loop μ-loop
-same-length c = search needs
-
-returns : tie.Need-returns Inv-loop μ-loop
-returns c = search needs
-
 pub fill-u32-spec : {M : Type 1} → statement M
 fill-u32-spec =
     tie.close
     (tie.spec
     Inv-loop
     μ-loop
-    loop-holds
-    start-at-requires
-    cast-to
-    mul-to
-    slice-write-to
-    add-i
-    loop-less
-    loop-again
-    same-length
-    returns)
+    (λ c. search needs)
+    (λ c κs. search needs)
+    (λ c. search needs)
+    (λ c. search needs)
+    (λ c. search needs)
+    (λ c. search needs)
+    (λ c. search needs)
+    (λ c. search needs)
+    (λ c. search needs)
+    (λ c. search needs))

@@ -19,37 +19,24 @@ abbrev μ-loop : tie.MeasureT-loop
 loop-holds : tie.Need-loop-holds Inv-loop μ-loop
 loop-holds c = (omega arith, c .pre, refl)
 
-add-out : tie.Need-add-out Inv-loop μ-loop
-add-out c = search needs
-
-mul-out : tie.Need-mul-out Inv-loop μ-loop
-mul-out c = search needs
-
-array-read-out : tie.Need-array-read-out Inv-loop μ-loop
-array-read-out c = search needs
-
-mul-out-2 : tie.Need-mul-out-2 Inv-loop μ-loop
-mul-out-2 c = search needs
-
-array-write-out : tie.Need-array-write-out Inv-loop μ-loop
-array-write-out c = search needs
-
-add-i : tie.Need-add-i Inv-loop μ-loop
-add-i c = search needs
-
-loop-less : tie.Need-loop-less Inv-loop μ-loop
-loop-less c = search needs
-
 loop-again : tie.Need-loop-again Inv-loop μ-loop
 loop-again c =
-    let l = c .before .loop in
-    (omega arith, length-set (l .out) (l .i) _ ∙ l .inv .1, shift-more (c .before .before .args .t1) (l .out) (l .i) (omega (arith, l .inv .1)) (omega (arith, c .before .before .pre)) (l .inv .2))
+    let l = c .before .loop in (
+      omega arith,
+      length-set (l .out) (l .i) _ ∙ l .inv .1,
+      shift-more (c .before .before .args .t1) (l .out) (l .i) (omega (arith, l .inv .1))
+          (omega (arith, c .before .before .pre)) (l .inv .2),
+    )
 
 returns : tie.Need-returns Inv-loop μ-loop
 returns c =
     let l = c .before .loop in
-    let full : l .i ≡ 15 = omega arith in
-    (l .inv .1, (rw full at (l .inv .2)) ∙ take-all 15 (drop 1 (c .before .before .args .t1)) (omega (arith, length-drop 1 (c .before .before .args .t1), c .before .before .pre)))
+    let full : l .i ≡ 15 = omega arith in (
+      l .inv .1,
+      (rw full at (l .inv .2))
+          ∙ take-all 15 (drop 1 (c .before .before .args .t1))
+          (omega (arith, length-drop 1 (c .before .before .args .t1), c .before .before .pre)),
+    )
 
 pub shifted-spec : {M : Type 1} → statement M
 shifted-spec =
@@ -58,12 +45,12 @@ shifted-spec =
     Inv-loop
     μ-loop
     loop-holds
-    add-out
-    mul-out
-    array-read-out
-    mul-out-2
-    array-write-out
-    add-i
-    loop-less
+    (λ c. search needs)
+    (λ c. search needs)
+    (λ c. search needs)
+    (λ c. search needs)
+    (λ c. search needs)
+    (λ c. search needs)
+    (λ c. search needs)
     loop-again
     returns)

@@ -14,14 +14,8 @@ returns c = let a = c .before .args in past-queue (a .words .now) (a .count) (a 
 returns-2 : tie.Need-returns-2
 returns-2 c = let a = c .before .before .args in past-words (a .words .now) (a .count) (a .place) (omega arith)
 
-mul-result : tie.Need-mul-result
-mul-result c = search needs
-
-shared-slice-read-result : tie.Need-shared-slice-read-result
-shared-slice-read-result c = search needs
-
 returns-3 : tie.Need-returns-3
 returns-3 c = let a = c .before .before .before .args in sym (getD-take (a .count) (a .words .now) (a .place) 0 (omega arith))
 
 pub word-at-spec : {M : Type 1} → statement M
-word-at-spec = tie.close (tie.spec returns returns-2 mul-result shared-slice-read-result returns-3)
+word-at-spec = tie.close (tie.spec returns returns-2 (λ c. search needs) (λ c. search needs) returns-3)

@@ -9,9 +9,6 @@ use borrow.Author.Needs.{needs}
 use Rattle.bus.proofs.port.capacity.Statement.{statement}
 use Rattle.bus.proofs.port.capacity.Tie as tie
 
-shl-result : tie.Need-shl-result
-shl-result c = search needs
-
 returns : tie.Need-returns
 returns c =
     let e = c .args .exponent in
@@ -21,4 +18,4 @@ returns c =
     (same, omega (arith, same, s))
 
 pub capacity-spec : {M : Type 1} → statement M
-capacity-spec = tie.close (tie.spec shl-result returns)
+capacity-spec = tie.close (tie.spec (λ c. search needs) returns)

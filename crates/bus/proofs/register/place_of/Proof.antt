@@ -8,16 +8,10 @@ use borrow.Author.Needs.{needs}
 use Rattle.bus.proofs.register.place_of.Statement.{statement}
 use Rattle.bus.proofs.register.place_of.Tie as tie
 
-offset-requires : tie.Need-offset-requires
-offset-requires c κs = search needs
-
-cast-result : tie.Need-cast-result
-cast-result c = search needs
-
 returns : tie.Need-returns
 returns c =
     let e = ap (λ (m : ℕ). m / 4) (c .offset .ensures) in
     (e, subst (λ (m : ℕ). m < 30) (sym e) (place-small (c .before .args .register)))
 
 pub place-of-spec : {M : Type 1} → statement M
-place-of-spec = tie.close (tie.spec offset-requires cast-result returns)
+place-of-spec = tie.close (tie.spec (λ c κs. search needs) (λ c. search needs) returns)

@@ -8,14 +8,8 @@ use borrow.Author.Needs.{needs}
 use Rattle.bus.proofs.station.control_held.Statement.{statement}
 use Rattle.bus.proofs.station.control_held.Tie as tie
 
-set-requires : tie.Need-set-requires
-set-requires c κs = search needs
-
-set-requires-2 : tie.Need-set-requires-2
-set-requires-2 c κs = search needs
-
 returns : tie.Need-returns
 returns c = c .set2 .ensures ∙ ap (setField (Cr RTF) 0) (c .before .set .ensures)
 
 pub control-held-spec : {M : Type 1} → statement M
-control-held-spec = tie.close (tie.spec set-requires set-requires-2 returns)
+control-held-spec = tie.close (tie.spec (λ c κs. search needs) (λ c κs. search needs) returns)

@@ -5,12 +5,6 @@ use borrow.Author.Needs.{needs}
 use Rattle.bus.proofs.station.flush_after.Statement.{statement}
 use Rattle.bus.proofs.station.flush_after.Tie as tie
 
-has-ended-requires : tie.Need-has-ended-requires
-has-ended-requires c κs = search needs
-
-answered-requires : tie.Need-answered-requires
-answered-requires c κs = search needs
-
 returns : tie.Need-returns
 returns c = rw (sym (c .before .before .has-ended .ensures) ∙ c .before .if1 .taken) (c .answered .ensures)
 
@@ -18,4 +12,4 @@ returns-2 : tie.Need-returns-2
 returns-2 c = rw (sym (c .before .has-ended .ensures) ∙ c .if1 .left)
 
 pub flush-after-spec : {M : Type 1} → statement M
-flush-after-spec = tie.close (tie.spec has-ended-requires answered-requires returns returns-2)
+flush-after-spec = tie.close (tie.spec (λ c κs. search needs) (λ c κs. search needs) returns returns-2)

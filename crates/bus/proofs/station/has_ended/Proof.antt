@@ -5,24 +5,6 @@ use borrow.Author.Needs.{needs}
 use Rattle.bus.proofs.station.has_ended.Statement.{statement}
 use Rattle.bus.proofs.station.has_ended.Tie as tie
 
-next-requires : tie.Need-next-requires
-next-requires c κs = search needs
-
-enum-told : tie.Need-enum-told
-enum-told c = search needs
-
-enum-told-2 : tie.Need-enum-told-2
-enum-told-2 c = search needs
-
-enum-told-3 : tie.Need-enum-told-3
-enum-told-3 c = search needs
-
-enum-told-4 : tie.Need-enum-told-4
-enum-told-4 c = search needs
-
-enum-told-5 : tie.Need-enum-told-5
-enum-told-5 c = search needs
-
 returns : tie.Need-returns
 returns c = rw (sym (c .before .before .next .ensures) ∙ c .enum-told .given .1)
 
@@ -42,12 +24,12 @@ pub has-ended-spec : {M : Type 1} → statement M
 has-ended-spec =
     tie.close
     (tie.spec
-    next-requires
-    enum-told
-    enum-told-2
-    enum-told-3
-    enum-told-4
-    enum-told-5
+    (λ c κs. search needs)
+    (λ c. search needs)
+    (λ c. search needs)
+    (λ c. search needs)
+    (λ c. search needs)
+    (λ c. search needs)
     returns
     returns-2
     returns-3

@@ -8,46 +8,23 @@ use borrow.Author.Needs.{needs}
 use Rattle.bus.proofs.station.port_after.Statement.{statement}
 use Rattle.bus.proofs.station.port_after.Tie as tie
 
-enum-known-access : tie.Need-enum-known-access
-enum-known-access c = search needs
-
-role-of-requires : tie.Need-role-of-requires
-role-of-requires c κs = search needs
-
-after-read-requires : tie.Need-after-read-requires
-after-read-requires c κs = search needs
-
-enum-known-access-2 : tie.Need-enum-known-access-2
-enum-known-access-2 c = search needs
-
-role-of-requires-2 : tie.Need-role-of-requires-2
-role-of-requires-2 c κs = search needs
-
-after-write-requires : tie.Need-after-write-requires
-after-write-requires c κs = search needs
-
-enum-told : tie.Need-enum-told
-enum-told c = search needs
-
-after-write-requires-2 : tie.Need-after-write-requires-2
-after-write-requires-2 c κs = search needs
-
-enum-told-2 : tie.Need-enum-told-2
-enum-told-2 c = search needs
-
-after-read-requires-2 : tie.Need-after-read-requires-2
-after-read-requires-2 c κs = search needs
-
-enum-told-3 : tie.Need-enum-told-3
-enum-told-3 c = search needs
-
 returns : tie.Need-returns
-returns c = (c .after-read .ensures .0, rw (c .before .before .before .access .given .1) (c .after-read .ensures .1 ∙ ap (λ (x : Role). readBy x (wireOf (c .before .before .before .before .before .args .port))) (c .before .role-of .ensures)))
+returns c = (
+  c .after-read .ensures .0,
+  rw (c .before .before .before .access .given .1)
+      (c .after-read .ensures .1
+      ∙ ap (λ (x : Role). readBy x (wireOf (c .before .before .before .before .before .args .port))) (c .before .role-of .ensures)),
+)
 
 returns-2 : tie.Need-returns-2
 returns-2 c =
-    let a = c .before .before .before .before .before .args in
-    (c .after-write .ensures .0, rw (c .before .before .before .access2 .given .1) (c .after-write .ensures .1 ∙ ap (λ (x : Role). writtenBy (a .exponent) x (c .before .before .before .access2 .given .0 .1 .0) (wireOf (a .port))) (c .before .role-of2 .ensures)))
+    let a = c .before .before .before .before .before .args in (
+      c .after-write .ensures .0,
+      rw (c .before .before .before .access2 .given .1)
+          (c .after-write .ensures .1
+          ∙ ap (λ (x : Role). writtenBy (a .exponent) x (c .before .before .before .access2 .given .0 .1 .0) (wireOf (a .port)))
+          (c .before .role-of2 .ensures)),
+    )
 
 returns-3 : tie.Need-returns-3
 returns-3 c = (c .after-write2 .ensures .0, rw (c .before .enum-told .given .1) (c .after-write2 .ensures .1))
@@ -62,17 +39,17 @@ pub port-after-spec : {M : Type 1} → statement M
 port-after-spec =
     tie.close
     (tie.spec
-    enum-known-access
-    role-of-requires
-    after-read-requires
-    enum-known-access-2
-    role-of-requires-2
-    after-write-requires
-    enum-told
-    after-write-requires-2
-    enum-told-2
-    after-read-requires-2
-    enum-told-3
+    (λ c. search needs)
+    (λ c κs. search needs)
+    (λ c κs. search needs)
+    (λ c. search needs)
+    (λ c κs. search needs)
+    (λ c κs. search needs)
+    (λ c. search needs)
+    (λ c κs. search needs)
+    (λ c. search needs)
+    (λ c κs. search needs)
+    (λ c. search needs)
     returns
     returns-2
     returns-3

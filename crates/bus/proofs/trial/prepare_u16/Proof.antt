@@ -10,15 +10,21 @@ use Rattle.bus.proofs.trial.prepare_u16.Tie as tie
 
 returns : tie.Need-returns
 returns c =
-    let a = c .before .before .before .before .before .before .before .before .before .before .args in
-    rw (c .before .before .before .before .if1 .taken)
-    (c .before .before .pack-words-u16 .ensures ∙ ap (λ (o : BitOrder). laid (packWords o 16 (a .total) (a .read .now)) (a .sent-words .now)) (c .before .before .before .before .before .bit-order .ensures))
+    let c₄ = c .before .before .before .before in
+    let a = c₄ .before .before .before .before .before .before .args in
+    rw (c₄ .if1 .taken)
+    (c .before .before .pack-words-u16 .ensures
+    ∙ ap (λ (o : BitOrder). laid (packWords o 16 (a .total) (a .read .now)) (a .sent-words .now))
+    (c₄ .before .bit-order .ensures))
 
 returns-2 : tie.Need-returns-2
 returns-2 c =
-    let a = c .before .before .before .before .before .before .before .before .before .before .args in
-    rw (c .before .before .before .before .if1 .left)
-    (c .before .before .pack-words-u162 .ensures ∙ ap (λ (o : BitOrder). laid (packWords o 16 (a .total) (a .write .now)) (a .sent-words .now)) (c .before .before .before .before .before .bit-order .ensures))
+    let c₄ = c .before .before .before .before in
+    let a = c₄ .before .before .before .before .before .before .args in
+    rw (c₄ .if1 .left)
+    (c .before .before .pack-words-u162 .ensures
+    ∙ ap (λ (o : BitOrder). laid (packWords o 16 (a .total) (a .write .now)) (a .sent-words .now))
+    (c₄ .before .bit-order .ensures))
 
 pub prepare-u16-spec : {M : Type 1} → statement M
 prepare-u16-spec =

@@ -8,13 +8,15 @@ use Rattle.c_api.proofs.pair.lpspi_trial_u32.Tie as tie
 
 returns : tie.Need-returns
 returns c =
-    let a = c .before .before .before .before .before .before .before .before .before .before .before .before .before .before .before .before .before .before .before .args in
-    let t = c .before .before .before .before .before .before .before .before .trial-u32 in
+    let c₈ = c .before .before .before .before .before .before .before .before in
+    let c₁₂ = c₈ .before .before .before .before in
+    let a = c₁₂ .before .before .before .before .before .before .before .args in
+    let t = c₈ .trial-u32 in
     let report = c .before .before .report in
-    host-trial U32 (t .result) (t .last .1 .1 .0) (t .last .1 .1 .1 .1 .0) (c .before .before .before .before .before .before .before .before .before .before .before .before .board .result) (c .before .before .before .before .before .before .before .before .before .before .before .board2 .result)
+    host-trial U32 (t .result) (t .last .1 .1 .0) (t .last .1 .1 .1 .1 .0) (c₁₂ .board .result) (c₈ .before .before .before .board2 .result)
     (a .gate-driver) (a .antenna-driver) (a .inplace) (a .gate-exponent) (a .antenna-exponent)
     (a .gate-read .now) (a .gate-write .now) (a .antenna-read .now) (a .antenna-write .now) (a .events .now) (a .state .now)
-    (report .last .1 .0) (report .result) (c .before .before .before .before .before .before .before .before .before .before .before .before .board .ensures) (c .before .before .before .before .before .before .before .before .before .before .before .board2 .ensures) (t .ensures) (report .ensures)
+    (report .last .1 .0) (report .result) (c₁₂ .board .ensures) (c₈ .before .before .before .board2 .ensures) (t .ensures) (report .ensures)
 
 pub lpspi-trial-u32-spec : {M : Type 1} → statement M
 lpspi-trial-u32-spec =

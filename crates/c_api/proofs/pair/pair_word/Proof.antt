@@ -8,17 +8,15 @@ use borrow.Author.Needs.{needs}
 use Rattle.c_api.proofs.pair.pair_word.Statement.{statement}
 use Rattle.c_api.proofs.pair.pair_word.Tie as tie
 
-state-word-requires : tie.Need-state-word-requires
-state-word-requires c κs = search needs
-
 returns : tie.Need-returns
-returns c = let a = c .before .before .args in c .state-word .ensures ∙ word-gate (stateOf (a .gate)) (stateOf (a .antenna)) (a .i) (omega arith)
-
-state-word-requires-2 : tie.Need-state-word-requires-2
-state-word-requires-2 c κs = search needs
+returns c =
+    let a = c .before .before .args in
+    c .state-word .ensures ∙ word-gate (stateOf (a .gate)) (stateOf (a .antenna)) (a .i) (omega arith)
 
 returns-2 : tie.Need-returns-2
-returns-2 c = let a = c .before .before .args in c .state-word2 .ensures ∙ word-antenna (stateOf (a .gate)) (stateOf (a .antenna)) (a .i) (omega arith)
+returns-2 c =
+    let a = c .before .before .args in
+    c .state-word2 .ensures ∙ word-antenna (stateOf (a .gate)) (stateOf (a .antenna)) (a .i) (omega arith)
 
 pub pair-word-spec : {M : Type 1} → statement M
-pair-word-spec = tie.close (tie.spec state-word-requires returns state-word-requires-2 returns-2)
+pair-word-spec = tie.close (tie.spec (λ c κs. search needs) returns (λ c κs. search needs) returns-2)

@@ -16,13 +16,12 @@ use Rattle.c_api.proofs.pair.show.Statement.{statement}
 use Rattle.c_api.proofs.pair.show.Tie as tie
 
 abbrev Inv-loop : tie.InvT-loop
-Inv-loop gate antenna state₀ n i₀ state i = (i ≤ n) × (length state ≡ length state₀) × (state ≡ laid (tabulate i (λ (j : ℕ). getD (stateWords (stateOf gate) ++ stateWords (stateOf antenna)) j 0)) state₀)
+Inv-loop gate antenna state₀ n i₀ state i =
+    (i ≤ n) × (length state ≡ length state₀)
+    × (state ≡ laid (tabulate i (λ (j : ℕ). getD (stateWords (stateOf gate) ++ stateWords (stateOf antenna)) j 0)) state₀)
 
 abbrev μ-loop : tie.MeasureT-loop
 μ-loop gate antenna state₀ n i₀ state i = n - i
-
-least-requires : tie.Need-least-requires Inv-loop μ-loop
-least-requires c κs = search needs
 
 loop-holds : tie.Need-loop-holds Inv-loop μ-loop
 loop-holds c = (omega arith, refl, refl)
@@ -45,8 +44,11 @@ loop-less c = omega arith
 loop-again : tie.Need-loop-again Inv-loop μ-loop
 loop-again c = let l = c .before .before .loop in
     let a = c .before .before .before .before .before .args in
-    let f : ℕ → ℕ = λ j. getD (stateWords (stateOf (a .gate)) ++ stateWords (stateOf (a .antenna))) j 0 in
-    (omega arith, length-set (l .state) (l .i) _ ∙ l .inv .1, store-step (l .i) _ f (a .state .now) (l .state) (omega arith) (c .pair-word .ensures) (l .inv .2))
+    let f : ℕ → ℕ = λ j. getD (stateWords (stateOf (a .gate)) ++ stateWords (stateOf (a .antenna))) j 0 in (
+      omega arith,
+      length-set (l .state) (l .i) _ ∙ l .inv .1,
+      store-step (l .i) _ f (a .state .now) (l .state) (omega arith) (c .pair-word .ensures) (l .inv .2),
+    )
 
 same-length : tie.Need-same-length Inv-loop μ-loop
 same-length c = c .before .loop .inv .1
@@ -54,7 +56,8 @@ same-length c = c .before .loop .inv .1
 returns : tie.Need-returns Inv-loop μ-loop
 returns c = let l = c .before .loop in
     let a = c .before .before .before .before .args in
-    shown (l .i) 136 (stateWords (stateOf (a .gate)) ++ stateWords (stateOf (a .antenna))) (a .state .now) (l .state) (length-both (stateOf (a .gate)) (stateOf (a .antenna))) (omega arith) (λ (h : l .i < 136). omega arith) (l .inv .2)
+    shown (l .i) 136 (stateWords (stateOf (a .gate)) ++ stateWords (stateOf (a .antenna))) (a .state .now) (l .state)
+    (length-both (stateOf (a .gate)) (stateOf (a .antenna))) (omega arith) (λ (h : l .i < 136). omega arith) (l .inv .2)
 
 pub show-spec : {M : Type 1} → statement M
 show-spec =
@@ -62,7 +65,7 @@ show-spec =
     (tie.spec
     Inv-loop
     μ-loop
-    least-requires
+    (λ c κs. search needs)
     loop-holds
     pair-word-requires
     mul-state

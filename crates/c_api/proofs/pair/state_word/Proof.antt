@@ -11,51 +11,38 @@ use borrow.Author.Needs.{needs}
 use Rattle.c_api.proofs.pair.state_word.Statement.{statement}
 use Rattle.c_api.proofs.pair.state_word.Tie as tie
 
-head-requires : tie.Need-head-requires
-head-requires c κs = search needs
-
-mul-result : tie.Need-mul-result
-mul-result c = search needs
-
-array-read-result : tie.Need-array-read-result
-array-read-result c = search needs
-
 returns : tie.Need-returns
-returns c = let a = c .before .before .before .args in ap (λ (l : List ℕ). getD l (a .i) 0) (c .head .ensures) ∙ word-head (stateOf (a .end)) (a .i) (omega arith)
-
-word-requires : tie.Need-word-requires
-word-requires c κs = search needs
+returns c =
+    let a = c .before .before .before .args in
+    ap (λ (l : List ℕ). getD l (a .i) 0) (c .head .ensures) ∙ word-head (stateOf (a .end)) (a .i) (omega arith)
 
 returns-2 : tie.Need-returns-2
-returns-2 c = let a = c .before .before .before .before .before .before .args in c .word .ensures ∙ word-transmit (stateOf (a .end)) (a .i) (omega arith) (omega arith)
-
-word-requires-2 : tie.Need-word-requires-2
-word-requires-2 c κs = search needs
+returns-2 c =
+    let a = c .before .before .before .before .before .before .args in
+    c .word .ensures ∙ word-transmit (stateOf (a .end)) (a .i) (omega arith) (omega arith)
 
 returns-3 : tie.Need-returns-3
-returns-3 c = let a = c .before .before .before .before .before .before .before .args in c .word2 .ensures ∙ word-receive (stateOf (a .end)) (a .i) (omega arith) (omega arith)
-
-mul-result-2 : tie.Need-mul-result-2
-mul-result-2 c = search needs
-
-array-read-result-2 : tie.Need-array-read-result-2
-array-read-result-2 c = search needs
+returns-3 c =
+    let a = c .before .before .before .before .before .before .before .args in
+    c .word2 .ensures ∙ word-receive (stateOf (a .end)) (a .i) (omega arith) (omega arith)
 
 returns-4 : tie.Need-returns-4
-returns-4 c = let a = c .before .before .before .before .before .before .args in word-register (stateOf (a .end)) (a .i) (omega arith) (omega arith)
+returns-4 c =
+    let a = c .before .before .before .before .before .before .args in
+    word-register (stateOf (a .end)) (a .i) (omega arith) (omega arith)
 
 pub state-word-spec : {M : Type 1} → statement M
 state-word-spec =
     tie.close
     (tie.spec
-    head-requires
-    mul-result
-    array-read-result
+    (λ c κs. search needs)
+    (λ c. search needs)
+    (λ c. search needs)
     returns
-    word-requires
+    (λ c κs. search needs)
     returns-2
-    word-requires-2
+    (λ c κs. search needs)
     returns-3
-    mul-result-2
-    array-read-result-2
+    (λ c. search needs)
+    (λ c. search needs)
     returns-4)

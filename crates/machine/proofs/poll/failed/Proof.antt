@@ -4,18 +4,6 @@ use borrow.Author.Needs.{needs}
 use Rattle.machine.proofs.poll.failed.Statement.{statement}
 use Rattle.machine.proofs.poll.failed.Tie as tie
 
-enum-told : tie.Need-enum-told
-enum-told c = search needs
-
-read-requires : tie.Need-read-requires
-read-requires c κs = search needs
-
-enum-told-2 : tie.Need-enum-told-2
-enum-told-2 c = search needs
-
-read-requires-2 : tie.Need-read-requires-2
-read-requires-2 c κs = search needs
-
 returns : tie.Need-returns
 returns c = simp (c .before .enum-told .given .1, ← c .read .ensures)
 
@@ -24,4 +12,4 @@ returns-2 c = simp (c .before .enum-told2 .given .1, ← c .read2 .ensures)
 
 pub failed-spec : {M : Type 1} → statement M
 failed-spec =
-    tie.close (tie.spec enum-told read-requires enum-told-2 read-requires-2 returns returns-2)
+    tie.close (tie.spec (λ c. search needs) (λ c κs. search needs) (λ c. search needs) (λ c κs. search needs) returns returns-2)

@@ -4,21 +4,6 @@ use borrow.Author.Needs.{needs}
 use Rattle.machine.proofs.poll.poll_answered.Statement.{statement}
 use Rattle.machine.proofs.poll.poll_answered.Tie as tie
 
-enum-told : tie.Need-enum-told
-enum-told c = search needs
-
-failed-requires : tie.Need-failed-requires
-failed-requires c κs = search needs
-
-enum-told-2 : tie.Need-enum-told-2
-enum-told-2 c = search needs
-
-enum-known-poll : tie.Need-enum-known-poll
-enum-known-poll c = search needs
-
-ready-requires : tie.Need-ready-requires
-ready-requires c κs = search needs
-
 returns : tie.Need-returns
 returns c = simp (c .before .before .enum-told .given .1, ← c .before .failed .ensures, c .if1 .taken)
 
@@ -38,11 +23,11 @@ pub poll-answered-spec : {M : Type 1} → statement M
 poll-answered-spec =
     tie.close
     (tie.spec
-    enum-told
-    failed-requires
-    enum-told-2
-    enum-known-poll
-    ready-requires
+    (λ c. search needs)
+    (λ c κs. search needs)
+    (λ c. search needs)
+    (λ c. search needs)
+    (λ c κs. search needs)
     returns
     returns-2
     returns-3

@@ -19,7 +19,9 @@ use Rattle.runs.proofs.drive.drive.Tie as tie
 abbrev Inv-loop : tie.InvT-loop
 Inv-loop frame budget script log₀ send words₀ t₀ made₀ used₀ received₀ log words t made used received =
     (made ≤ budget) × (used ≤ made) × (received ≤ length words) × (length log ≡ length log₀) × (length words ≡ length words₀)
-    × ((m : Transfer) (old olds : List ℕ) → Stands frame script send old olds m t₀ (record { made = made₀; used = used₀; received = received₀ }) log₀ words₀ → Stands frame script send old olds m t (record { made = made; used = used; received = received }) log words)
+    × ((m : Transfer) (old olds : List ℕ)
+    → Stands frame script send old olds m t₀ (record { made = made₀; used = used₀; received = received₀ }) log₀ words₀
+    → Stands frame script send old olds m t (record { made = made; used = used; received = received }) log words)
 
 abbrev μ-loop : tie.MeasureT-loop
 μ-loop frame budget script log₀ send words₀ t₀ made₀ used₀ received₀ log words t made used received = budget - made
@@ -27,73 +29,59 @@ abbrev μ-loop : tie.MeasureT-loop
 loop-holds : tie.Need-loop-holds Inv-loop μ-loop
 loop-holds c = (omega arith, omega arith, omega arith, refl, refl, λ m old olds h. h)
 
-next-requires : tie.Need-next-requires Inv-loop μ-loop
-next-requires c κs = search needs
-
-ending-of-requires : tie.Need-ending-of-requires Inv-loop μ-loop
-ending-of-requires c κs = search needs
-
-halted-requires : tie.Need-halted-requires Inv-loop μ-loop
-halted-requires c κs = search needs
-
-ending-of-requires-2 : tie.Need-ending-of-requires-2 Inv-loop μ-loop
-ending-of-requires-2 c κs = search needs
-
-answer-requires : tie.Need-answer-requires Inv-loop μ-loop
-answer-requires c κs = search needs
-
-code-of-requires : tie.Need-code-of-requires Inv-loop μ-loop
-code-of-requires c κs = search needs
-
-value-of-requires : tie.Need-value-of-requires Inv-loop μ-loop
-value-of-requires c κs = search needs
-
 put-requires : tie.Need-put-requires Inv-loop μ-loop
 put-requires c κs = omega arith
-
-keep-requires : tie.Need-keep-requires Inv-loop μ-loop
-keep-requires c κs = search needs
 
 add-made : tie.Need-add-made Inv-loop μ-loop
 add-made c = omega arith
 
-uses-of-requires : tie.Need-uses-of-requires Inv-loop μ-loop
-uses-of-requires c κs = search needs
-
 add-used : tie.Need-add-used Inv-loop μ-loop
 add-used c =
-    let l = c .before .before .before .before .before .before .before .before .before .before .before .before .before .before .before .before .before .loop in
-    let room : l .made < c .before .before .before .before .before .before .before .before .before .before .before .before .before .before .before .before .before .before .before .before .before .before .args .budget = c .before .before .before .before .before .before .before .before .before .before .before .before .before .before .before .if1 .left in
-    omega (arith, uses-one (c .before .before .before .before .before .before .before .before .before .before .before .before .before .before .before .before .next .result), c .uses-of .ensures, l .inv .1, room)
-
-answer-of-requires : tie.Need-answer-of-requires Inv-loop μ-loop
-answer-of-requires c κs = search needs
-
-answered-requires : tie.Need-answered-requires Inv-loop μ-loop
-answered-requires c κs = search needs
+    let c₈ = c .before .before .before .before .before .before .before .before in
+    let c₁₅ = c₈ .before .before .before .before .before .before .before in
+    let l = c₁₅ .before .before .loop in
+    let room : l .made < c₁₅ .before .before .before .before .before .before .before .args .budget = c₁₅ .if1 .left in
+    omega (arith, uses-one (c₁₅ .before .next .result), c .uses-of .ensures, l .inv .1, room)
 
 loop-less : tie.Need-loop-less Inv-loop μ-loop
-loop-less c = omega (arith, c .before .before .before .before .before .before .before .before .before .before .before .before .before .before .before .before .before .if1 .left)
+loop-less c =
+    let c₈ = c .before .before .before .before .before .before .before .before in
+    omega (arith, c₈ .before .before .before .before .before .before .before .before .before .if1 .left)
 
 loop-again : tie.Need-loop-again Inv-loop μ-loop
 loop-again c =
-    let l = c .before .before .before .before .before .before .before .before .before .before .before .before .before .before .before .before .before .before .before .loop in
-    let a = c .before .before .before .before .before .before .before .before .before .before .before .before .before .before .before .before .before .before .before .before .before .before .before .before .args in
-    let access = c .before .before .before .before .before .before .before .before .before .before .before .before .before .before .before .before .before .before .next .result in
-    let goes = sym (c .before .before .before .before .before .before .before .before .before .before .before .before .before .before .before .before .halted .ensures) ∙ c .before .before .before .before .before .before .before .before .before .before .before .before .before .before .before .if2 .left in
-    let room : l .made < a .budget = c .before .before .before .before .before .before .before .before .before .before .before .before .before .before .before .before .before .if1 .left in
-    let logged = c .before .before .before .before .before .before .before .before .before .put .ensures ∙ ap₂ (λ (x y : ℕ). put (l .log) (l .made) x y) (c .before .before .before .before .before .before .before .before .before .before .before .before .code-of .ensures) (c .before .before .before .before .before .before .before .before .before .before .value-of .ensures) in
-    let st = c .before .before .before .before .before .keep in (
+    let c₅ = c .before .before .before .before .before in
+    let c₉ = c₅ .before .before .before .before in
+    let c₁₄ = c₉ .before .before .before .before .before in
+    let c₁₈ = c₁₄ .before .before .before .before in
+    let c₂₄ = c₁₈ .before .before .before .before .before .before in
+    let l = c₁₈ .before .loop in
+    let a = c₂₄ .args in
+    let access = c₁₈ .next .result in
+    let goes = sym (c₁₄ .before .before .halted .ensures) ∙ c₁₄ .before .if2 .left in
+    let room : l .made < a .budget = c₁₄ .before .before .before .if1 .left in
+    let logged =
+    c₉ .put .ensures
+    ∙ ap₂ (λ (x y : ℕ). put (l .log) (l .made) x y) (c₉ .before .before .before .code-of .ensures)
+    (c₉ .before .value-of .ensures) in
+    let st = c₅ .keep in (
       omega (arith, room),
       omega (arith, uses-one access, c .before .before .uses-of .ensures, l .inv .1),
       rw (st .ensures .0, st .kept .1 .0) (got-fit access (l .received) (length (l .received-words)) (l .inv .2)),
-      c .before .before .before .before .before .before .before .before .before .put .kept .0 ∙ l .inv .3,
+      c₉ .put .kept .0 ∙ l .inv .3,
       st .kept .1 .0 ∙ l .inv .4,
-      λ m old olds h. stands-next (a .frame) (a .script .now) (a .sent-words .now) old olds m (l .t) (record { made = l .made; used = l .used; received = l .received }) (l .log) (l .received-words) (l .inv .5 m old olds h)
-          access (c .before .before .before .before .before .before .before .before .before .before .before .before .before .before .answer .result) (sym (c .before .before .before .before .before .before .before .before .before .before .before .before .before .before .before .before .before .before .next .ensures)) goes (c .before .before .before .before .before .before .before .before .before .before .before .before .before .before .answer .ensures)
-          (c .answered .result) (record { made = l .made + 1; used = l .used + c .before .before .uses-of .result; received = st .result }) (c .before .before .before .before .before .before .before .before .before .put .last .0) (st .last .1 .0)
-          (let wide : 2 * a .budget ≤ length (a .log .now) = c .before .before .before .before .before .before .before .before .before .before .before .before .before .before .before .before .before .before .before .before .before .before .before .before .pre .0 in omega (arith, l .inv .5 m old olds h .size, l .inv .3, room, wide))
-          (c .answered .ensures ∙ ap (resumed (l .t)) (c .before .answer-of .ensures)) refl (ap (λ (x : ℕ). l .used + x) (c .before .before .uses-of .ensures)) (st .ensures .0) (c .before .before .before .before .before .before .before .before .before .put .kept .0) logged (st .ensures .1),
+      λ m old olds h.
+          stands-next (a .frame) (a .script .now) (a .sent-words .now) old olds m (l .t)
+          (record { made = l .made; used = l .used; received = l .received }) (l .log) (l .received-words) (l .inv .5 m old olds h)
+          access (c₁₄ .answer .result) (sym (c₁₈ .next .ensures)) goes (c₁₄ .answer .ensures)
+          (c .answered .result)
+          (record { made = l .made + 1; used = l .used + c .before .before .uses-of .result; received = st .result })
+          (c₉ .put .last .0) (st .last .1 .0)
+          (let wide : 2 * a .budget ≤ length (a .log .now) = c₂₄ .pre .0 in
+          omega (arith, l .inv .5 m old olds h .size, l .inv .3, room, wide))
+          (c .answered .ensures ∙ ap (resumed (l .t)) (c .before .answer-of .ensures)) refl
+          (ap (λ (x : ℕ). l .used + x) (c .before .before .uses-of .ensures)) (st .ensures .0) (c₉ .put .kept .0)
+          logged (st .ensures .1),
     )
 
 same-length : tie.Need-same-length Inv-loop μ-loop
@@ -107,8 +95,10 @@ returns c =
     λ m old olds h.
     let l = c .before .before .before .loop in
     let a = c .before .before .before .before .before .before .before .before .args in
-    stands-full (a .frame) (a .script .now) (a .sent-words .now) old olds m (l .t) (record { made = l .made; used = l .used; received = l .received }) (l .log) (l .received-words) (l .inv .5 m old olds h)
-    (a .budget) (c .ending-of .result) (l .inv .0) (c .before .if1 .taken) (c .ending-of .ensures ∙ ap endingOf (c .before .before .next .ensures))
+    stands-full (a .frame) (a .script .now) (a .sent-words .now) old olds m (l .t)
+    (record { made = l .made; used = l .used; received = l .received }) (l .log) (l .received-words) (l .inv .5 m old olds h)
+    (a .budget) (c .ending-of .result) (l .inv .0) (c .before .if1 .taken)
+    (c .ending-of .ensures ∙ ap endingOf (c .before .before .next .ensures))
 
 same-length-3 : tie.Need-same-length-3 Inv-loop μ-loop
 same-length-3 c = c .before .before .before .before .before .loop .inv .3
@@ -118,12 +108,18 @@ same-length-4 c = c .before .before .before .before .before .loop .inv .4
 
 returns-2 : tie.Need-returns-2 Inv-loop μ-loop
 returns-2 c =
+    let c₄ = c .before .before .before .before in
     λ m old olds h.
-    let l = c .before .before .before .before .before .loop in
-    let a = c .before .before .before .before .before .before .before .before .before .before .args in
-    let n = c .before .before .before .before .next .ensures in
-    stands-halted (a .frame) (a .script .now) (a .sent-words .now) old olds m (l .t) (record { made = l .made; used = l .used; received = l .received }) (l .log) (l .received-words) (l .inv .5 m old olds h)
-    (a .budget) (c .ending-of2 .result) (l .inv .0) (ap (λ (x : Access). halted x (l .used) (length (a .script .now))) (sym n) ∙ sym (c .before .before .halted .ensures) ∙ c .before .if2 .taken) (c .ending-of2 .ensures ∙ ap endingOf n)
+    let l = c₄ .before .loop in
+    let a = c₄ .before .before .before .before .before .before .args in
+    let n = c₄ .next .ensures in
+    stands-halted (a .frame) (a .script .now) (a .sent-words .now) old olds m (l .t)
+    (record { made = l .made; used = l .used; received = l .received }) (l .log) (l .received-words) (l .inv .5 m old olds h)
+    (a .budget) (c .ending-of2 .result) (l .inv .0)
+    (ap (λ (x : Access). halted x (l .used) (length (a .script .now))) (sym n)
+    ∙ sym (c .before .before .halted .ensures)
+    ∙ c .before .if2 .taken)
+    (c .ending-of2 .ensures ∙ ap endingOf n)
 
 pub drive-spec : {M : Type 1} → statement M
 drive-spec =
@@ -132,20 +128,20 @@ drive-spec =
     Inv-loop
     μ-loop
     loop-holds
-    next-requires
-    ending-of-requires
-    halted-requires
-    ending-of-requires-2
-    answer-requires
-    code-of-requires
-    value-of-requires
+    (λ c κs. search needs)
+    (λ c κs. search needs)
+    (λ c κs. search needs)
+    (λ c κs. search needs)
+    (λ c κs. search needs)
+    (λ c κs. search needs)
+    (λ c κs. search needs)
     put-requires
-    keep-requires
+    (λ c κs. search needs)
     add-made
-    uses-of-requires
+    (λ c κs. search needs)
     add-used
-    answer-of-requires
-    answered-requires
+    (λ c κs. search needs)
+    (λ c κs. search needs)
     loop-less
     loop-again
     same-length

@@ -4,51 +4,24 @@ use borrow.Author.Needs.{needs}
 use Rattle.runs.proofs.drive.value_of.Statement.{statement}
 use Rattle.runs.proofs.drive.value_of.Tie as tie
 
-enum-told : tie.Need-enum-told
-enum-told c = search needs
-
-enum-known-access : tie.Need-enum-known-access
-enum-known-access c = search needs
-
-enum-known-access-2 : tie.Need-enum-known-access-2
-enum-known-access-2 c = search needs
-
-word-in-requires : tie.Need-word-in-requires
-word-in-requires c κs = search needs
-
-enum-told-2 : tie.Need-enum-told-2
-enum-told-2 c = search needs
-
-enum-told-3 : tie.Need-enum-told-3
-enum-told-3 c = search needs
-
-returns : tie.Need-returns
-returns c = search needs
-
 returns-2 : tie.Need-returns-2
 returns-2 c = simp (c .before .access .given .1)
 
 returns-3 : tie.Need-returns-3
 returns-3 c = simp (c .before .before .access2 .given .1, c .word-in .ensures)
 
-returns-4 : tie.Need-returns-4
-returns-4 c = search needs
-
-returns-5 : tie.Need-returns-5
-returns-5 c = search needs
-
 pub value-of-spec : {M : Type 1} → statement M
 value-of-spec =
     tie.close
     (tie.spec
-    enum-told
-    enum-known-access
-    enum-known-access-2
-    word-in-requires
-    enum-told-2
-    enum-told-3
-    returns
+    (λ c. search needs)
+    (λ c. search needs)
+    (λ c. search needs)
+    (λ c κs. search needs)
+    (λ c. search needs)
+    (λ c. search needs)
+    (λ c. search needs)
     returns-2
     returns-3
-    returns-4
-    returns-5)
+    (λ c. search needs)
+    (λ c. search needs))

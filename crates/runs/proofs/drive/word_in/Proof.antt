@@ -5,20 +5,10 @@ use borrow.Author.Needs.{needs}
 use Rattle.runs.proofs.drive.word_in.Statement.{statement}
 use Rattle.runs.proofs.drive.word_in.Tie as tie
 
-overlaid-requires : tie.Need-overlaid-requires
-overlaid-requires c κs = search needs
-
-answer-requires : tie.Need-answer-requires
-answer-requires c κs = search needs
-
-cut-word-requires : tie.Need-cut-word-requires
-cut-word-requires c κs = search needs
-
 returns : tie.Need-returns
-returns c = let e = sym (c .before .before .before .overlaid .ensures) ∙ c .before .before .if1 .taken in simp (e, c .cut-word .ensures, c .before .answer .ensures)
-
-answer-requires-2 : tie.Need-answer-requires-2
-answer-requires-2 c κs = search needs
+returns c =
+    let e = sym (c .before .before .before .overlaid .ensures) ∙ c .before .before .if1 .taken in
+    simp (e, c .cut-word .ensures, c .before .answer .ensures)
 
 returns-2 : tie.Need-returns-2
 returns-2 c = let e = sym (c .before .before .overlaid .ensures) ∙ c .before .if1 .left in simp (e, c .answer2 .ensures)
@@ -27,9 +17,9 @@ pub word-in-spec : {M : Type 1} → statement M
 word-in-spec =
     tie.close
     (tie.spec
-    overlaid-requires
-    answer-requires
-    cut-word-requires
+    (λ c κs. search needs)
+    (λ c κs. search needs)
+    (λ c κs. search needs)
     returns
-    answer-requires-2
+    (λ c κs. search needs)
     returns-2)

@@ -13,7 +13,8 @@ use Rattle.machine.specs.declared.flush.Flush.the-variants.{Status, Sizes, Coun
 use Rattle.machine.specs.Flush.{flushAccess, flushed}
 use Rattle.runs.specs.Flush.{FlushAt}
 use Rattle.runs.proofs.LoopLaws.{at-start}
-use Rattle.runs.proofs.FlushLaws.{flush-read, receive-failed, transmit-failed, still-busy, not-busy, none-left, some-left, loop-ended, loop-stopped}
+use Rattle.runs.proofs.FlushLaws.{flush-read, receive-failed, transmit-failed, still-busy, not-busy}
+use Rattle.runs.proofs.FlushLaws.{none-left, some-left, loop-ended, loop-stopped}
 use borrow.Author.Needs.{needs}
 use Rattle.runs.proofs.flush.poll.Statement.{statement}
 use Rattle.runs.proofs.flush.poll.Tie as tie
@@ -68,8 +69,10 @@ module _ (c : tie.After-read2 Inv-loop μ-loop) where
   at-sizes =
       moved (script₁ sr) (old₁ sr) (made₁ sr + 1) (log₁ sr)
       (not-busy (sr .read .result)
-      (sym (c .before .before .before .before .before .before .before .before .before .failed .ensures) ∙ c .before .before .before .before .before .before .before .before .if2 .left)
-      (sym (c .before .before .before .before .before .before .before .failed2 .ensures) ∙ c .before .before .before .before .before .before .if3 .left)
+      (sym (c .before .before .before .before .before .before .before .before .before .failed .ensures)
+      ∙ c .before .before .before .before .before .before .before .before .if2 .left)
+      (sym (c .before .before .before .before .before .before .before .failed2 .ensures)
+      ∙ c .before .before .before .before .before .before .if3 .left)
       (sym (c .before .before .before .before .before .is-busy .ensures) ∙ c .before .before .before .before .if4 .left))
       (at-status sr)
 
@@ -83,7 +86,8 @@ module _ (c : tie.After-read2 Inv-loop μ-loop) where
   at-counts =
       let m = room₁ sr in
       let k = room₂ in
-      flush-read (script₁ sr) (old₁ sr) (made₁ sr + 1) Sizes (c .before .offset2 .result) (c .read2 .result) (log₁ sr) (c .read2 .last .1 .0)
+      flush-read (script₁ sr) (old₁ sr) (made₁ sr + 1) Sizes (c .before .offset2 .result) (c .read2 .result)
+      (log₁ sr) (c .read2 .last .1 .0)
       at-sizes refl (omega (arith, m, k)) (omega (arith, m, k))
       (c .before .offset2 .ensures) (c .read2 .ensures .0) (c .read2 .ensures .1)
 
@@ -105,33 +109,23 @@ module _ (c : tie.After-read3 Inv-loop μ-loop) where
   at-end =
       let m = room₁ sr₃ in
       let k = room₃ in
-      flush-read (script₁ sr₃) (old₁ sr₃) (made₁ sr₃ + 1 + 1) Counts (c .before .offset3 .result) (c .read3 .result) (param .read2 .last .1 .0) (c .read3 .last .1 .0)
+      flush-read (script₁ sr₃) (old₁ sr₃) (made₁ sr₃ + 1 + 1) Counts (c .before .offset3 .result) (c .read3 .result)
+      (param .read2 .last .1 .0) (c .read3 .last .1 .0)
       (at-counts param) refl (omega (arith, m, k)) (omega (arith, m, k))
       (c .before .offset3 .ensures) (c .read3 .ensures .0) (c .read3 .ensures .1)
 
-least-requires : tie.Need-least-requires Inv-loop μ-loop
-least-requires c κs = search needs
-
 loop-holds : tie.Need-loop-holds Inv-loop μ-loop
-loop-holds c = (omega arith, refl, at-start flushAccess flushed (c .before .before .before .args .script .now) (c .before .before .before .args .log .now) Status)
-
-offset-requires : tie.Need-offset-requires Inv-loop μ-loop
-offset-requires c κs = search needs
+loop-holds c = (
+  omega arith,
+  refl,
+  at-start flushAccess flushed (c .before .before .before .args .script .now) (c .before .before .before .args .log .now) Status,
+)
 
 read-requires : tie.Need-read-requires Inv-loop μ-loop
 read-requires c κs = (omega arith, omega arith)
 
 add-made : tie.Need-add-made Inv-loop μ-loop
 add-made c = omega arith
-
-failed-requires : tie.Need-failed-requires Inv-loop μ-loop
-failed-requires c κs = search needs
-
-failed-requires-2 : tie.Need-failed-requires-2 Inv-loop μ-loop
-failed-requires-2 c κs = search needs
-
-is-busy-requires : tie.Need-is-busy-requires Inv-loop μ-loop
-is-busy-requires c κs = search needs
 
 loop-less : tie.Need-loop-less Inv-loop μ-loop
 loop-less c = let m = room₁ (c .before .before .before .before .before .before .before .before) in omega (arith, m)
@@ -150,26 +144,21 @@ loop-again c =
           (at-status r),
     )
 
-offset-requires-2 : tie.Need-offset-requires-2 Inv-loop μ-loop
-offset-requires-2 c κs = search needs
-
 read-requires-2 : tie.Need-read-requires-2 Inv-loop μ-loop
-read-requires-2 c κs = let m = room₁ (c .before .before .before .before .before .before .before .before .before .before .before) in let n = long₁ (c .before .before .before .before .before .before .before .before .before .before .before) in (omega (arith, m, n, c .before .before .if5 .left), omega (arith, m, c .before .before .if5 .left))
+read-requires-2 c κs =
+    let c₁₁ = c .before .before .before .before .before .before .before .before .before .before .before in
+    let m = room₁ (c₁₁) in
+    let n = long₁ (c₁₁) in
+    (omega (arith, m, n, c .before .before .if5 .left), omega (arith, m, c .before .before .if5 .left))
 
 add-made-2 : tie.Need-add-made-2 Inv-loop μ-loop
 add-made-2 c = omega arith
-
-offset-requires-3 : tie.Need-offset-requires-3 Inv-loop μ-loop
-offset-requires-3 c κs = search needs
 
 read-requires-3 : tie.Need-read-requires-3 Inv-loop μ-loop
 read-requires-3 c κs = (omega arith, omega arith)
 
 add-made-3 : tie.Need-add-made-3 Inv-loop μ-loop
 add-made-3 c = omega arith
-
-is-empty-requires : tie.Need-is-empty-requires Inv-loop μ-loop
-is-empty-requires c κs = search needs
 
 loop-less-2 : tie.Need-loop-less-2 Inv-loop μ-loop
 loop-less-2 c = let m = room₃ (c .before .before .before .before) in omega (arith, m)
@@ -180,14 +169,18 @@ loop-again-2 c =
     let m = room₃ r in (
       omega (arith, m),
       long₃ r,
-      moved (script₁ (sr₃ r)) (old₁ (sr₃ r)) (made₁ (sr₃ r) + 1 + 1 + 1) (r .read3 .last .1 .0) (some-left (r .read3 .result) (sym (c .before .is-empty .ensures) ∙ c .if7 .left)) (at-end r),
+      moved (script₁ (sr₃ r)) (old₁ (sr₃ r)) (made₁ (sr₃ r) + 1 + 1 + 1) (r .read3 .last .1 .0)
+          (some-left (r .read3 .result) (sym (c .before .is-empty .ensures) ∙ c .if7 .left)) (at-end r),
     )
 
 same-length : tie.Need-same-length Inv-loop μ-loop
 same-length c = c .before .loop .inv .1
 
 returns : tie.Need-returns Inv-loop μ-loop
-returns c = loop-stopped (c .before .before .before .before .before .args .script .now) (c .before .before .before .before .before .args .log .now) (c .before .loop .made) Status (c .before .loop .log) (c .before .loop .inv .2) (c .before .before .before .before .before .args .budget) (omega arith) refl (omega arith)
+returns c =
+    loop-stopped (c .before .before .before .before .before .args .script .now)
+    (c .before .before .before .before .before .args .log .now) (c .before .loop .made) Status (c .before .loop .log)
+    (c .before .loop .inv .2) (c .before .before .before .before .before .args .budget) (omega arith) refl (omega arith)
 
 same-length-2 : tie.Need-same-length-2 Inv-loop μ-loop
 same-length-2 c = long₁ (c .before .before .before .before)
@@ -197,7 +190,8 @@ returns-2 c =
     let r = c .before .before .before .before in
     let m = room₁ r in
     loop-ended (script₁ r) (old₁ r) (made₁ r + 1) (Ended (Err (Fifo Rx))) (log₁ r)
-    (moved (script₁ r) (old₁ r) (made₁ r + 1) (log₁ r) (receive-failed (r .read .result) (sym (c .before .failed .ensures) ∙ c .if2 .taken)) (at-status r))
+    (moved (script₁ r) (old₁ r) (made₁ r + 1) (log₁ r)
+    (receive-failed (r .read .result) (sym (c .before .failed .ensures) ∙ c .if2 .taken)) (at-status r))
     (budget₁ r) (Err (Fifo Rx)) (omega (arith, m)) refl refl
 
 same-length-3 : tie.Need-same-length-3 Inv-loop μ-loop
@@ -209,7 +203,9 @@ returns-3 c =
     let m = room₁ r in
     loop-ended (script₁ r) (old₁ r) (made₁ r + 1) (Ended (Err (Fifo Tx))) (log₁ r)
     (moved (script₁ r) (old₁ r) (made₁ r + 1) (log₁ r)
-    (transmit-failed (r .read .result) (sym (c .before .before .before .failed .ensures) ∙ c .before .before .if2 .left) (sym (c .before .failed2 .ensures) ∙ c .if3 .taken)) (at-status r))
+    (transmit-failed (r .read .result) (sym (c .before .before .before .failed .ensures) ∙ c .before .before .if2 .left)
+    (sym (c .before .failed2 .ensures) ∙ c .if3 .taken))
+    (at-status r))
     (budget₁ r) (Err (Fifo Tx)) (omega (arith, m)) refl refl
 
 same-length-4 : tie.Need-same-length-4 Inv-loop μ-loop
@@ -236,7 +232,8 @@ returns-5 c =
     let r = sr p in
     let m = room₁ r in
     let k = room₂ p in
-    loop-stopped (script₁ r) (old₁ r) (made₁ r + 1 + 1) Counts (p .read2 .last .1 .0) (at-counts p) (budget₁ r) (omega (arith, m, k)) refl (omega (arith, r .before .before .before .before .before .least .ensures, c .if6 .taken))
+    loop-stopped (script₁ r) (old₁ r) (made₁ r + 1 + 1) Counts (p .read2 .last .1 .0) (at-counts p) (budget₁ r)
+    (omega (arith, m, k)) refl (omega (arith, r .before .before .before .before .before .least .ensures, c .if6 .taken))
 
 same-length-6 : tie.Need-same-length-6 Inv-loop μ-loop
 same-length-6 c = long₃ (c .before .before .before .before)
@@ -248,7 +245,8 @@ returns-6 c =
     let m = room₁ r in
     let k = room₃ q in
     loop-ended (script₁ r) (old₁ r) (made₁ r + 1 + 1 + 1) (Ended Ok) (q .read3 .last .1 .0)
-    (moved (script₁ r) (old₁ r) (made₁ r + 1 + 1 + 1) (q .read3 .last .1 .0) (none-left (q .read3 .result) (sym (c .before .is-empty .ensures) ∙ c .if7 .taken)) (at-end q))
+    (moved (script₁ r) (old₁ r) (made₁ r + 1 + 1 + 1) (q .read3 .last .1 .0)
+    (none-left (q .read3 .result) (sym (c .before .is-empty .ensures) ∙ c .if7 .taken)) (at-end q))
     (budget₁ r) Ok (omega (arith, m, k)) refl refl
 
 pub poll-spec : {M : Type 1} → statement M
@@ -257,23 +255,23 @@ poll-spec =
     (tie.spec
     Inv-loop
     μ-loop
-    least-requires
+    (λ c κs. search needs)
     loop-holds
-    offset-requires
+    (λ c κs. search needs)
     read-requires
     add-made
-    failed-requires
-    failed-requires-2
-    is-busy-requires
+    (λ c κs. search needs)
+    (λ c κs. search needs)
+    (λ c κs. search needs)
     loop-less
     loop-again
-    offset-requires-2
+    (λ c κs. search needs)
     read-requires-2
     add-made-2
-    offset-requires-3
+    (λ c κs. search needs)
     read-requires-3
     add-made-3
-    is-empty-requires
+    (λ c κs. search needs)
     loop-less-2
     loop-again-2
     same-length

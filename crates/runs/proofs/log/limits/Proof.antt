@@ -8,11 +8,8 @@ use Rattle.runs.proofs.log.limits.Tie as tie
 returns : tie.Need-returns
 returns c = simp (lt-ltb _ _ (c .if1 .taken))
 
-mul-result : tie.Need-mul-result
-mul-result c = search needs
-
 returns-2 : tie.Need-returns-2
 returns-2 c = simp (le-ltb _ _ (c .if1 .left))
 
 pub limits-spec : {M : Type 1} → statement M
-limits-spec = tie.close (tie.spec returns mul-result returns-2)
+limits-spec = tie.close (tie.spec returns (λ c. search needs) returns-2)

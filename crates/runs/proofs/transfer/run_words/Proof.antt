@@ -15,23 +15,30 @@ returns c =
     (sym (c .before .limits .ensures) ∙ c .if1 .taken)
 
 ahead-requires : tie.Need-ahead-requires
-ahead-requires c κs = let a = c .before .before .before .before .before .before .before .before .before .args in room (a .budget) (a .log .now) (sym (c .before .before .before .limits .ensures) ∙ c .before .before .if1 .left)
+ahead-requires c κs =
+    let a = c .before .before .before .before .before .before .before .before .before .args in
+    room (a .budget) (a .log .now) (sym (c .before .before .before .limits .ensures) ∙ c .before .before .if1 .left)
 
 drive-requires : tie.Need-drive-requires
 drive-requires c κs =
-    let a = c .before .before .before .before .before .before .before .before .before .before .before .before .before .before .before .before .before .before .args in
-    let k = c .before .before .before .before .before .before .before .before .ahead in
-    let wide = room (a .budget) (a .log .now) (sym (c .before .before .before .before .before .before .before .before .before .before .before .before .limits .ensures) ∙ c .before .before .before .before .before .before .before .before .before .before .before .if1 .left) in (
+    let c₈ = c .before .before .before .before .before .before .before .before in
+    let c₁₂ = c₈ .before .before .before .before in
+    let a = c₁₂ .before .before .before .before .before .before .args in
+    let k = c₈ .ahead in
+    let wide = room (a .budget) (a .log .now) (sym (c₁₂ .limits .ensures) ∙ c₈ .before .before .before .if1 .left) in (
       omega (arith, wide, k .kept .1 .1 .1 .1 .0),
       (k .ensures .made, (k .ensures .used, omega (arith, k .ensures .received, k .kept .1 .1 .1 .1 .1 .1 .0))),
     )
 
 returns-2 : tie.Need-returns-2
 returns-2 c =
-    let a = c .before .before .before .before .before .before .before .before .before .before .before .before .before .before .before .before .before .before .before .before .before .before .before .args in
-    c .before .before .before .before .drive .ensures (a .transfer) (a .log .now) (a .received-words .now) (c .before .before .before .before .before .before .before .before .before .before .before .before .before .ahead .ensures .stands)
+    let c₄ = c .before .before .before .before in
+    let c₁₃ = c₄ .before .before .before .before .before .before .before .before .before in
+    let c₁₇ = c₁₃ .before .before .before .before in
+    let a = c₁₇ .before .before .before .before .before .before .args in
+    c₄ .drive .ensures (a .transfer) (a .log .now) (a .received-words .now) (c₁₃ .ahead .ensures .stands)
     ∙ words-run (a .transfer) (a .frame) (a .budget) (a .script .now) (a .sent-words .now) (a .log .now) (a .received-words .now)
-    (sym (c .before .before .before .before .before .before .before .before .before .before .before .before .before .before .before .before .before .limits .ensures) ∙ c .before .before .before .before .before .before .before .before .before .before .before .before .before .before .before .before .if1 .left)
+    (sym (c₁₇ .limits .ensures) ∙ c₁₃ .before .before .before .if1 .left)
 
 pub run-words-spec : {M : Type 1} → statement M
 run-words-spec =

@@ -23,8 +23,10 @@ returns c =
     let order = pack .before .before in
     let longer = order .before in
     let a = longer .before .before .before .before .before .before .args in
-    separate-left U16 (a .driver) (a .budget) (a .script .now) (a .log .now) (c .result .ensures) (order .bit-order .ensures) (a .read .now) (a .write .now) (length (now (longer .longer-u16 .result)))
-    (longer-total _ _ (longer .longer-u16 .ensures)) (pack .pack-words-u16 .last .1 .1 .1 .0) (pack .pack-words-u16 .ensures) (run .transfer .ensures) (unpack .unpack-words-u16 .ensures)
+    separate-left U16 (a .driver) (a .budget) (a .script .now) (a .log .now) (c .result .ensures) (order .bit-order .ensures)
+    (a .read .now) (a .write .now) (length (now (longer .longer-u16 .result)))
+    (longer-total _ _ (longer .longer-u16 .ensures)) (pack .pack-words-u16 .last .1 .1 .1 .0) (pack .pack-words-u16 .ensures)
+    (run .transfer .ensures) (unpack .unpack-words-u16 .ensures)
 
 pub exchange-separate-u16-spec : {M : Type 1} → statement M
 exchange-separate-u16-spec =

@@ -23,8 +23,10 @@ returns c =
     let order = pack .before .before in
     let longer = order .before in
     let a = longer .before .before .before .before .before .before .args in
-    separate-left U32 (a .driver) (a .budget) (a .script .now) (a .log .now) (c .result .ensures) (order .bit-order .ensures) (a .read .now) (a .write .now) (length (now (longer .longer-u32 .result)))
-    (longer-total _ _ (longer .longer-u32 .ensures)) (pack .pack-words-u32 .last .1 .1 .1 .0) (pack .pack-words-u32 .ensures) (run .transfer .ensures) (unpack .unpack-words-u32 .ensures)
+    separate-left U32 (a .driver) (a .budget) (a .script .now) (a .log .now) (c .result .ensures) (order .bit-order .ensures)
+    (a .read .now) (a .write .now) (length (now (longer .longer-u32 .result)))
+    (longer-total _ _ (longer .longer-u32 .ensures)) (pack .pack-words-u32 .last .1 .1 .1 .0) (pack .pack-words-u32 .ensures)
+    (run .transfer .ensures) (unpack .unpack-words-u32 .ensures)
 
 pub exchange-separate-u32-spec : {M : Type 1} → statement M
 exchange-separate-u32-spec =

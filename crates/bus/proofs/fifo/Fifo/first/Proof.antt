@@ -5,14 +5,8 @@ use borrow.Author.Needs.{needs}
 use Rattle.bus.proofs.fifo.Fifo.first.Statement.{statement}
 use Rattle.bus.proofs.fifo.Fifo.first.Tie as tie
 
-returns : tie.Need-returns
-returns c = search needs
-
-element-copy-out-result : tie.Need-element-copy-out-result
-element-copy-out-result c = search needs
-
 returns-2 : tie.Need-returns-2
 returns-2 c = first-queue (c .before .before .args .t1 .words) (c .before .before .args .t1 .count) (c .before .if1 .left)
 
 pub first-spec : {M : Type 1} → statement M
-first-spec = tie.close (tie.spec returns element-copy-out-result returns-2)
+first-spec = tie.close (tie.spec (λ c. search needs) (λ c. search needs) returns-2)

@@ -8,19 +8,12 @@ use borrow.Author.Needs.{needs}
 use Rattle.bus.proofs.fifo.Fifo.push.Statement.{statement}
 use Rattle.bus.proofs.fifo.Fifo.push.Tie as tie
 
-mul-f : tie.Need-mul-f
-mul-f c = search needs
-
-element-write-f : tie.Need-element-write-f
-element-write-f c = search needs
-
-add-f : tie.Need-add-f
-add-f c = search needs
-
 returns : tie.Need-returns
 returns c =
-    let f = c .args .self in
-    (record { places = length-set (f .words) (f .count) _ ∙ c .pre .0 .places; within = omega (arith, c .pre .1) }, push-queue (f .words) (f .count) (c .args .word) (omega (arith, c .pre .1, c .pre .0 .places)))
+    let f = c .args .self in (
+      record { places = length-set (f .words) (f .count) _ ∙ c .pre .0 .places; within = omega (arith, c .pre .1) },
+      push-queue (f .words) (f .count) (c .args .word) (omega (arith, c .pre .1, c .pre .0 .places)),
+    )
 
 pub push-spec : {M : Type 1} → statement M
-push-spec = tie.close (tie.spec mul-f element-write-f add-f returns)
+push-spec = tie.close (tie.spec (λ c. search needs) (λ c. search needs) (λ c. search needs) returns)

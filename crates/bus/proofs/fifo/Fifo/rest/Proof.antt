@@ -6,20 +6,14 @@ use borrow.Author.Needs.{needs}
 use Rattle.bus.proofs.fifo.Fifo.rest.Statement.{statement}
 use Rattle.bus.proofs.fifo.Fifo.rest.Tie as tie
 
-returns : tie.Need-returns
-returns c = search needs
-
-shifted-requires : tie.Need-shifted-requires
-shifted-requires c κs = search needs
-
-sub-t5 : tie.Need-sub-t5
-sub-t5 c = search needs
-
 returns-2 : tie.Need-returns-2
 returns-2 c =
     let f = c .before .before .before .before .before .args .self in
-    let s = c .before .shifted in
-    (record { places = s .ensures .0; within = omega (arith, c .before .before .before .before .before .pre .within) }, rest-queue (f .words) (s .result) (f .count) 15 (c .before .before .before .if1 .left) (omega (arith, c .before .before .before .before .before .pre .within)) (s .ensures .1))
+    let s = c .before .shifted in (
+      record { places = s .ensures .0; within = omega (arith, c .before .before .before .before .before .pre .within) },
+      rest-queue (f .words) (s .result) (f .count) 15 (c .before .before .before .if1 .left)
+          (omega (arith, c .before .before .before .before .before .pre .within)) (s .ensures .1),
+    )
 
 pub rest-spec : {M : Type 1} → statement M
-rest-spec = tie.close (tie.spec returns shifted-requires sub-t5 returns-2)
+rest-spec = tie.close (tie.spec (λ c. search needs) (λ c κs. search needs) (λ c. search needs) returns-2)

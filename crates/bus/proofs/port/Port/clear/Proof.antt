@@ -9,25 +9,18 @@ use borrow.Author.Needs.{needs}
 use Rattle.bus.proofs.port.Port.clear.Statement.{statement}
 use Rattle.bus.proofs.port.Port.clear.Tie as tie
 
-read-requires : tie.Need-read-requires
-read-requires c κs = search needs
-
-lowered-requires : tie.Need-lowered-requires
-lowered-requires c κs = search needs
-
-read-requires-2 : tie.Need-read-requires-2
-read-requires-2 c κs = search needs
-
-lowered-requires-2 : tie.Need-lowered-requires-2
-lowered-requires-2 c κs = search needs
-
 returns : tie.Need-returns
 returns c =
     let p = c .before .before .before .before .before .before .args .self in
     let l = c .before .before .lowered .ensures ∙ ap (λ (n : ℕ). cond (eqb n 1) false (p .t)) (c .before .before .before .read .ensures) in
-    let m = c .lowered2 .ensures ∙ ap (λ (n : ℕ). cond (eqb n 1) false (p .r)) (c .before .read2 .ensures) in
-    (record { transmit = c .before .before .before .before .before .before .pre .transmit; receive = c .before .before .before .before .before .before .pre .receive }, ap₂ (λ (t r : Bool). record { transmit = queueOf (p .transmit); receive = queueOf (p .receive); t = t; r = r }) l m)
+    let m = c .lowered2 .ensures ∙ ap (λ (n : ℕ). cond (eqb n 1) false (p .r)) (c .before .read2 .ensures) in (
+      record {
+        transmit = c .before .before .before .before .before .before .pre .transmit;
+        receive = c .before .before .before .before .before .before .pre .receive;
+      },
+      ap₂ (λ (t r : Bool). record { transmit = queueOf (p .transmit); receive = queueOf (p .receive); t = t; r = r }) l m,
+    )
 
 pub clear-spec : {M : Type 1} → statement M
 clear-spec =
-    tie.close (tie.spec read-requires lowered-requires read-requires-2 lowered-requires-2 returns)
+    tie.close (tie.spec (λ c κs. search needs) (λ c κs. search needs) (λ c κs. search needs) (λ c κs. search needs) returns)

@@ -8,17 +8,13 @@ use borrow.Author.Needs.{needs}
 use Rattle.bus.proofs.port.Port.new.Statement.{statement}
 use Rattle.bus.proofs.port.Port.new.Tie as tie
 
-new-requires : tie.Need-new-requires
-new-requires c κs = search needs
-
-new-requires-2 : tie.Need-new-requires-2
-new-requires-2 c κs = search needs
-
 returns : tie.Need-returns
 returns c =
     let a = c .before .new .ensures in
-    let b = c .new2 .ensures in
-    (record { transmit = a .0; receive = b .0 }, ap₂ (λ (x y : List ℕ). record { transmit = x; receive = y; t = false; r = false }) (a .1) (b .1))
+    let b = c .new2 .ensures in (
+      record { transmit = a .0; receive = b .0 },
+      ap₂ (λ (x y : List ℕ). record { transmit = x; receive = y; t = false; r = false }) (a .1) (b .1),
+    )
 
 pub new-spec : {M : Type 1} → statement M
-new-spec = tie.close (tie.spec new-requires new-requires-2 returns)
+new-spec = tie.close (tie.spec (λ c κs. search needs) (λ c κs. search needs) returns)

@@ -4,17 +4,14 @@ use borrow.Author.Needs.{needs}
 use Rattle.bus.proofs.port.Port.raise.Statement.{statement}
 use Rattle.bus.proofs.port.Port.raise.Tie as tie
 
-enum-told : tie.Need-enum-told
-enum-told c = search needs
-
-enum-told-2 : tie.Need-enum-told-2
-enum-told-2 c = search needs
-
 returns : tie.Need-returns
 returns c = (record { transmit = c .before .before .pre .transmit; receive = c .before .before .pre .receive }, rw (c .enum-told .given .1))
 
 returns-2 : tie.Need-returns-2
-returns-2 c = (record { transmit = c .before .before .pre .transmit; receive = c .before .before .pre .receive }, rw (c .enum-told2 .given .1))
+returns-2 c = (
+  record { transmit = c .before .before .pre .transmit; receive = c .before .before .pre .receive },
+  rw (c .enum-told2 .given .1),
+)
 
 pub raise-spec : {M : Type 1} → statement M
-raise-spec = tie.close (tie.spec enum-told enum-told-2 returns returns-2)
+raise-spec = tie.close (tie.spec (λ c. search needs) (λ c. search needs) returns returns-2)

@@ -9,14 +9,13 @@ use borrow.Author.Needs.{needs}
 use Rattle.bus.proofs.port.Port.received.Statement.{statement}
 use Rattle.bus.proofs.port.Port.received.Tie as tie
 
-rest-requires : tie.Need-rest-requires
-rest-requires c κs = search needs
-
 returns : tie.Need-returns
 returns c =
     let p = c .before .before .before .args .self in
-    let r = c .rest .ensures in
-    (record { transmit = c .before .before .before .pre .transmit; receive = r .0 }, ap (λ (l : List ℕ). queues (queueOf (p .transmit)) l (wireOf p)) (r .1))
+    let r = c .rest .ensures in (
+      record { transmit = c .before .before .before .pre .transmit; receive = r .0 },
+      ap (λ (l : List ℕ). queues (queueOf (p .transmit)) l (wireOf p)) (r .1),
+    )
 
 pub received-spec : {M : Type 1} → statement M
-received-spec = tie.close (tie.spec rest-requires returns)
+received-spec = tie.close (tie.spec (λ c κs. search needs) returns)

@@ -14,33 +14,25 @@ use borrow.Author.Needs.{needs}
 use Rattle.bus.proofs.port.Port.reset.Statement.{statement}
 use Rattle.bus.proofs.port.Port.reset.Tie as tie
 
-read-requires : tie.Need-read-requires
-read-requires c κs = search needs
-
-new-requires : tie.Need-new-requires
-new-requires c κs = search needs
-
 returns : tie.Need-returns
-returns c = (c .new .ensures .0, rw (eq-eqb (readField (Cr RST) (c .before .before .before .before .before .args .control)) 1 (sym (c .before .before .read .ensures) ∙ c .before .if1 .taken)) (c .new .ensures .1))
-
-read-requires-2 : tie.Need-read-requires-2
-read-requires-2 c κs = search needs
-
-emptied-if-requires : tie.Need-emptied-if-requires
-emptied-if-requires c κs = search needs
-
-read-requires-3 : tie.Need-read-requires-3
-read-requires-3 c κs = search needs
-
-emptied-if-requires-2 : tie.Need-emptied-if-requires-2
-emptied-if-requires-2 c κs = search needs
+returns c = (
+  c .new .ensures .0,
+  rw
+      (eq-eqb (readField (Cr RST) (c .before .before .before .before .before .args .control)) 1
+      (sym (c .before .before .read .ensures) ∙ c .before .if1 .taken))
+      (c .new .ensures .1),
+)
 
 returns-2 : tie.Need-returns-2
 returns-2 c =
-    let p = c .before .before .before .before .before .before .before .before .args .self in
-    let v = c .before .before .before .before .before .before .before .before .args .control in
-    let kept : readField (Cr RST) v ≡ 1 → ⊥ = λ (e : readField (Cr RST) v ≡ 1). c .before .before .before .before .if1 .left (c .before .before .before .before .before .read .ensures ∙ e) in
-    let l = c .before .before .emptied-if .ensures .1 ∙ ap (λ (n : ℕ). emptiedIf (eqb n 1) (queueOf (p .transmit))) (c .before .before .before .read2 .ensures) in
+    let c₄ = c .before .before .before .before in
+    let c₈ = c₄ .before .before .before .before in
+    let p = c₈ .args .self in
+    let v = c₈ .args .control in
+    let kept : readField (Cr RST) v ≡ 1 → ⊥ = λ (e : readField (Cr RST) v ≡ 1). c₄ .if1 .left (c₄ .before .read .ensures ∙ e) in
+    let l =
+    c .before .before .emptied-if .ensures .1
+    ∙ ap (λ (n : ℕ). emptiedIf (eqb n 1) (queueOf (p .transmit))) (c .before .before .before .read2 .ensures) in
     let m = c .emptied-if2 .ensures .1 ∙ ap (λ (n : ℕ). emptiedIf (eqb n 1) (queueOf (p .receive))) (c .before .read3 .ensures) in (
       record { transmit = c .before .before .emptied-if .ensures .0; receive = c .emptied-if2 .ensures .0 },
       rw (ne-eqb (readField (Cr RST) v) 1 kept) (ap₂ (λ (x y : List ℕ). record { transmit = x; receive = y; t = p .t; r = p .r }) l m),
@@ -50,11 +42,11 @@ pub reset-spec : {M : Type 1} → statement M
 reset-spec =
     tie.close
     (tie.spec
-    read-requires
-    new-requires
+    (λ c κs. search needs)
+    (λ c κs. search needs)
     returns
-    read-requires-2
-    emptied-if-requires
-    read-requires-3
-    emptied-if-requires-2
+    (λ c κs. search needs)
+    (λ c κs. search needs)
+    (λ c κs. search needs)
+    (λ c κs. search needs)
     returns-2)

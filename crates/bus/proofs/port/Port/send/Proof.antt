@@ -10,23 +10,25 @@ use borrow.Author.Needs.{needs}
 use Rattle.bus.proofs.port.Port.send.Statement.{statement}
 use Rattle.bus.proofs.port.Port.send.Tie as tie
 
-is-full-requires : tie.Need-is-full-requires
-is-full-requires c κs = search needs
-
-raise-requires : tie.Need-raise-requires
-raise-requires c κs = search needs
-
 returns : tie.Need-returns
 returns c = (c .raise .ensures .0, rw (sym (c .before .before .is-full .ensures) ∙ c .before .if1 .taken) (c .raise .ensures .1))
 
 push-requires : tie.Need-push-requires
-push-requires c κs = (c .before .before .before .before .pre .1 .transmit, room (c .before .before .before .before .args .exponent) (c .before .before .before .before .args .self .transmit) (c .before .before .before .before .pre .0) (c .before .before .before .before .pre .1 .transmit) (sym (c .before .before .is-full .ensures) ∙ c .before .if1 .left))
+push-requires c κs = (
+  c .before .before .before .before .pre .1 .transmit,
+  room (c .before .before .before .before .args .exponent) (c .before .before .before .before .args .self .transmit)
+      (c .before .before .before .before .pre .0) (c .before .before .before .before .pre .1 .transmit)
+      (sym (c .before .before .is-full .ensures) ∙ c .before .if1 .left),
+)
 
 returns-2 : tie.Need-returns-2
 returns-2 c =
     let p = c .before .before .before .before .before .args .self in
-    let r = c .push .ensures in
-    (record { transmit = r .0; receive = c .before .before .before .before .before .pre .1 .receive }, rw (sym (c .before .before .before .is-full .ensures) ∙ c .before .before .if1 .left) (ap (λ (l : List ℕ). queues l (queueOf (p .receive)) (wireOf p)) (r .1)))
+    let r = c .push .ensures in (
+      record { transmit = r .0; receive = c .before .before .before .before .before .pre .1 .receive },
+      rw (sym (c .before .before .before .is-full .ensures) ∙ c .before .before .if1 .left)
+          (ap (λ (l : List ℕ). queues l (queueOf (p .receive)) (wireOf p)) (r .1)),
+    )
 
 pub send-spec : {M : Type 1} → statement M
-send-spec = tie.close (tie.spec is-full-requires raise-requires returns push-requires returns-2)
+send-spec = tie.close (tie.spec (λ c κs. search needs) (λ c κs. search needs) returns push-requires returns-2)

@@ -9,14 +9,13 @@ use borrow.Author.Needs.{needs}
 use Rattle.bus.proofs.port.Port.without_first.Statement.{statement}
 use Rattle.bus.proofs.port.Port.without_first.Tie as tie
 
-rest-requires : tie.Need-rest-requires
-rest-requires c κs = search needs
-
 returns : tie.Need-returns
 returns c =
     let p = c .before .before .before .args .self in
-    let r = c .rest .ensures in
-    (record { transmit = r .0; receive = c .before .before .before .pre .receive }, ap (λ (l : List ℕ). queues l (queueOf (p .receive)) (wireOf p)) (r .1))
+    let r = c .rest .ensures in (
+      record { transmit = r .0; receive = c .before .before .before .pre .receive },
+      ap (λ (l : List ℕ). queues l (queueOf (p .receive)) (wireOf p)) (r .1),
+    )
 
 pub without-first-spec : {M : Type 1} → statement M
-without-first-spec = tie.close (tie.spec rest-requires returns)
+without-first-spec = tie.close (tie.spec (λ c κs. search needs) returns)

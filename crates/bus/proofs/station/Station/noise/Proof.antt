@@ -8,12 +8,6 @@ use borrow.Author.Needs.{needs}
 use Rattle.bus.proofs.station.Station.noise.Statement.{statement}
 use Rattle.bus.proofs.station.Station.noise.Tie as tie
 
-raise-requires : tie.Need-raise-requires
-raise-requires c κs = search needs
-
-with-port-requires : tie.Need-with-port-requires
-with-port-requires c κs = search needs
-
 returns : tie.Need-returns
 returns c =
     let w = c .with-port .ensures in
@@ -21,8 +15,10 @@ returns c =
     let s = c .before .before .before .args .self in (
       subst (λ (p : Port). Roomy p) (sym (w .3)) (r .0),
       w .2,
-      λ words registers. noised s (c .with-port .result) (c .before .raise .result) (c .before .before .before .args .direction) words registers w (r .1),
+      λ words registers.
+          noised s (c .with-port .result) (c .before .raise .result) (c .before .before .before .args .direction)
+          words registers w (r .1),
     )
 
 pub noise-spec : {M : Type 1} → statement M
-noise-spec = tie.close (tie.spec raise-requires with-port-requires returns)
+noise-spec = tie.close (tie.spec (λ c κs. search needs) (λ c κs. search needs) returns)

@@ -6,7 +6,12 @@ use Rattle.machine.proofs.transfer.Transfer.is_at_start.Statement.{stat
 use Rattle.machine.proofs.transfer.Transfer.is_at_start.Tie as tie
 
 returns : tie.Need-returns
-returns c = simp (← c .before .before .before .before .starts .ensures, c .before .before .before .if1 .taken, eq-eqb _ _ (c .before .if2 .taken))
+returns c =
+    simp (
+      ← c .before .before .before .before .starts .ensures,
+      c .before .before .before .if1 .taken,
+      eq-eqb _ _ (c .before .if2 .taken),
+    )
 
 returns-2 : tie.Need-returns-2
 returns-2 c = simp (← c .before .before .before .starts .ensures, c .before .before .if1 .taken, ne-eqb _ _ (c .if2 .left))

@@ -25,37 +25,49 @@ returns c =
 
 returns-2 : tie.Need-returns-2
 returns-2 c =
-    let a = c .before .before .before .before .before .before .before .before .before .before .before .before .before .before .before .before .before .before .before .before .before .before .before .before .args in
-    let w = c .before .before .before .before .before .before .before .before .before .before .before .before .before .before .before .before .before .before .before .work in
-    let s = c .before .before .before .before .before .before .before .before .before .before .before .before .before .wait-for-space in
-    let t = c .before .before .before .before .before .before .take-turns in
+    let c₆ = c .before .before .before .before .before .before in
+    let c₁₃ = c₆ .before .before .before .before .before .before .before in
+    let c₁₉ = c₁₃ .before .before .before .before .before .before in
+    let a = c₁₉ .before .before .before .before .before .args in
+    let w = c₁₉ .work in
+    let s = c₁₃ .wait-for-space in
+    let t = c₆ .take-turns in
     let u = t .result in
     let begins = atStart (a .transfer .reset) (w .result .command) (w .result .send) (w .result .receive) in
     let same : begins ≡ a .transfer =
     ap (λ (x : Work). atStart (a .transfer .reset) (x .command) (x .send) (x .receive)) (w .ensures)
-    ∙ sym (at-start (a .transfer) (sym (c .before .before .before .before .before .before .before .before .before .before .before .before .before .before .before .before .is-at-start .ensures) ∙ c .before .before .before .before .before .before .before .before .before .before .before .before .before .before .before .if2 .taken)) in
-    let first = stands-commanded (a .frame) (a .script .now) (a .sent-words .now) (a .received-words .now) (a .log .now) (s .last .1 .1 .1 .0)
-    (a .transfer .reset) (w .result .command) (w .result .send) (w .result .receive) (s .result) (s .ensures .3) (c .before .before .before .before .before .before .before .before .before .if3 .taken) (s .ensures .2) in
+    ∙ sym (at-start (a .transfer) (sym (c₁₃ .before .before .before .is-at-start .ensures) ∙ c₁₃ .before .before .if2 .taken)) in
+    let first =
+    stands-commanded (a .frame) (a .script .now) (a .sent-words .now) (a .received-words .now)
+    (a .log .now) (s .last .1 .1 .1 .0)
+    (a .transfer .reset) (w .result .command) (w .result .send) (w .result .receive) (s .result) (s .ensures .3)
+    (c₆ .before .before .before .if3 .taken) (s .ensures .2) in
     let reached = t .ensures .1 begins (a .log .now) (a .received-words .now) refl refl first in
     record {
       made = t .ensures .0 .made;
       used = t .ensures .0 .used;
       received = t .ensures .0 .received;
-      stands = subst (λ (x : Transfer). Stands (a .frame) (a .script .now) (a .sent-words .now) (a .log .now) (a .received-words .now) (a .transfer) x
+      stands =
+          subst
+          (λ (x : Transfer).
+          Stands (a .frame) (a .script .now) (a .sent-words .now) (a .log .now) (a .received-words .now) (a .transfer) x
           (u .spot) (t .last .1 .1 .1 .1 .1 .0) (t .last .1 .1 .1 .1 .1 .1 .1 .0)) (sym (c .at-turn .ensures))
           (subst (λ (x : Transfer). Stands (a .frame) (a .script .now) (a .sent-words .now) (a .log .now) (a .received-words .now) x
-          (turnAt (u .side) (u .sent) (u .spot .received) x) (u .spot) (t .last .1 .1 .1 .1 .1 .0) (t .last .1 .1 .1 .1 .1 .1 .1 .0)) same reached);
+          (turnAt (u .side) (u .sent) (u .spot .received) x) (u .spot) (t .last .1 .1 .1 .1 .1 .0)
+          (t .last .1 .1 .1 .1 .1 .1 .1 .0)) same reached);
     }
 
 returns-3 : tie.Need-returns-3
 returns-3 c =
-    let a = c .before .before .before .before .before .before .before .before .before .before .before .before .before .before .before .args in
-    let w = c .before .before .before .before .before .before .before .before .before .before .work in
-    let s = c .before .before .before .before .wait-for-space in
+    let c₄ = c .before .before .before .before in
+    let c₁₀ = c₄ .before .before .before .before .before .before in
+    let a = c₁₀ .before .before .before .before .before .args in
+    let w = c₁₀ .work in
+    let s = c₄ .wait-for-space in
     let begins = atStart (a .transfer .reset) (w .result .command) (w .result .send) (w .result .receive) in
     let same : begins ≡ a .transfer =
     ap (λ (x : Work). atStart (a .transfer .reset) (x .command) (x .send) (x .receive)) (w .ensures)
-    ∙ sym (at-start (a .transfer) (sym (c .before .before .before .before .before .before .before .is-at-start .ensures) ∙ c .before .before .before .before .before .before .if2 .taken)) in
+    ∙ sym (at-start (a .transfer) (sym (c₄ .before .before .before .is-at-start .ensures) ∙ c₄ .before .before .if2 .taken)) in
     record {
       made = s .ensures .0;
       used = s .ensures .1;

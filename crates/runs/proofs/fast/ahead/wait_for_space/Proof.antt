@@ -22,7 +22,9 @@ use Rattle.runs.proofs.fast.ahead.wait_for_space.Tie as tie
 abbrev Inv-loop : tie.InvT-loop
 Inv-loop command budget script log₀ made₀ used₀ log made used =
     (made ≤ budget) × (used ≤ made) × (length log ≡ length log₀)
-    × ((f : Frame) (send words : List ℕ) (q : Sequence) (n m : ℕ) (old olds : List ℕ) → Stands f script send old olds (atStart q command n m) (atStart q command n m) (spot 0 0 0) log₀ words → Stands f script send old olds (atStart q command n m) (atStart q command n m) (spot made used 0) log words)
+    × ((f : Frame) (send words : List ℕ) (q : Sequence) (n m : ℕ) (old olds : List ℕ)
+    → Stands f script send old olds (atStart q command n m) (atStart q command n m) (spot 0 0 0) log₀ words
+    → Stands f script send old olds (atStart q command n m) (atStart q command n m) (spot made used 0) log words)
 
 abbrev μ-loop : tie.MeasureT-loop
 μ-loop command budget script log₀ made₀ used₀ log made used = budget - made
@@ -33,111 +35,169 @@ loop-holds c = (omega arith, omega arith, refl, λ f send words q n m old olds h
 poll-requires : tie.Need-poll-requires Inv-loop μ-loop
 poll-requires c κs = (c .before .loop .inv .0, omega (arith, c .before .loop .inv .2, c .before .before .before .before .pre))
 
-enum-told : tie.Need-enum-told Inv-loop μ-loop
-enum-told c = search needs
-
 same-length : tie.Need-same-length Inv-loop μ-loop
-same-length c = c .before .before .before .before .poll .kept .1 .1 .1 .1 .1 .0 ∙ c .before .before .before .before .before .before .loop .inv .2
+same-length c =
+    c .before .before .before .before .poll .kept .1 .1 .1 .1 .1 .0
+    ∙ c .before .before .before .before .before .before .loop .inv .2
 
 returns : tie.Need-returns Inv-loop μ-loop
 returns c =
-    let a = c .before .before .before .before .before .before .before .before .before .args in
-    let l = c .before .before .before .before .before .before .loop in
-    let k = c .before .before .before .before .poll in
-    let k′ = as-look Tx (l .made) (l .used) (a .budget) (a .script .now) (l .log) (k .last .1 .1 .1 .1 .1 .0) (k .result) Rare (c .enum-told .given .1) (k .ensures) in
-    (l .inv .0, l .inv .1, refl, λ f send words q n m old olds h. subst (λ (x : List ℕ). Stands f (a .script .now) send old olds (atStart q (a .command) n m) (atStart q (a .command) n m) (spot (l .made) (l .used) 0) x words) (sym k′) (l .inv .3 f send words q n m old olds h))
-
-enum-told-2 : tie.Need-enum-told-2 Inv-loop μ-loop
-enum-told-2 c = search needs
+    let c₄ = c .before .before .before .before in
+    let a = c₄ .before .before .before .before .before .args in
+    let l = c₄ .before .before .loop in
+    let k = c₄ .poll in
+    let k′ =
+    as-look Tx (l .made) (l .used) (a .budget) (a .script .now) (l .log) (k .last .1 .1 .1 .1 .1 .0) (k .result) Rare
+    (c .enum-told .given .1) (k .ensures) in (
+      l .inv .0,
+      l .inv .1,
+      refl,
+      λ f send words q n m old olds h.
+          subst
+          (λ (x : List ℕ).
+          Stands f (a .script .now) send old olds (atStart q (a .command) n m) (atStart q (a .command) n m)
+          (spot (l .made) (l .used) 0) x words)
+          (sym k′) (l .inv .3 f send words q n m old olds h),
+    )
 
 add-made : tie.Need-add-made Inv-loop μ-loop
 add-made c =
-    let l = c .before .before .before .before .before .before .loop in
-    let a = c .before .before .before .before .before .before .before .before .before .args in
-    let k = c .before .before .before .before .poll in
-    let k′ = as-look Tx (l .made) (l .used) (a .budget) (a .script .now) (l .log) (k .last .1 .1 .1 .1 .1 .0) (k .result) Unready (c .enum-told2 .given .1) (k .ensures) in
-    omega (arith, k′ .room, c .before .before .before .before .before .before .before .before .before .fits .budget)
+    let c₄ = c .before .before .before .before in
+    let c₉ = c₄ .before .before .before .before .before in
+    let l = c₄ .before .before .loop in
+    let a = c₉ .args in
+    let k = c₄ .poll in
+    let k′ =
+    as-look Tx (l .made) (l .used) (a .budget) (a .script .now) (l .log) (k .last .1 .1 .1 .1 .1 .0) (k .result) Unready
+    (c .enum-told2 .given .1) (k .ensures) in
+    omega (arith, k′ .room, c₉ .fits .budget)
 
 add-used : tie.Need-add-used Inv-loop μ-loop
 add-used c =
-    let l = c .before .before .before .before .before .before .loop in
-    let a = c .before .before .before .before .before .before .before .before .before .args in
-    let k = c .before .before .before .before .poll in
-    let k′ = as-look Tx (l .made) (l .used) (a .budget) (a .script .now) (l .log) (k .last .1 .1 .1 .1 .1 .0) (k .result) Unready (c .enum-told2 .given .1) (k .ensures) in
-    omega (arith, k′ .room, l .inv .1, c .before .before .before .before .before .before .before .before .before .fits .budget)
+    let c₄ = c .before .before .before .before in
+    let c₉ = c₄ .before .before .before .before .before in
+    let l = c₄ .before .before .loop in
+    let a = c₉ .args in
+    let k = c₄ .poll in
+    let k′ =
+    as-look Tx (l .made) (l .used) (a .budget) (a .script .now) (l .log) (k .last .1 .1 .1 .1 .1 .0) (k .result) Unready
+    (c .enum-told2 .given .1) (k .ensures) in
+    omega (arith, k′ .room, l .inv .1, c₉ .fits .budget)
 
 loop-less : tie.Need-loop-less Inv-loop μ-loop
 loop-less c =
-    let l = c .before .before .before .before .before .before .loop in
-    let a = c .before .before .before .before .before .before .before .before .before .args in
-    let k = c .before .before .before .before .poll in
-    let k′ = as-look Tx (l .made) (l .used) (a .budget) (a .script .now) (l .log) (k .last .1 .1 .1 .1 .1 .0) (k .result) Unready (c .enum-told2 .given .1) (k .ensures) in
+    let c₄ = c .before .before .before .before in
+    let l = c₄ .before .before .loop in
+    let a = c₄ .before .before .before .before .before .args in
+    let k = c₄ .poll in
+    let k′ =
+    as-look Tx (l .made) (l .used) (a .budget) (a .script .now) (l .log) (k .last .1 .1 .1 .1 .1 .0) (k .result) Unready
+    (c .enum-told2 .given .1) (k .ensures) in
     omega (arith, k′ .room)
 
 loop-again : tie.Need-loop-again Inv-loop μ-loop
 loop-again c =
-    let a = c .before .before .before .before .before .before .before .before .before .args in
-    let l = c .before .before .before .before .before .before .loop in
-    let k = c .before .before .before .before .poll in
+    let c₄ = c .before .before .before .before in
+    let c₉ = c₄ .before .before .before .before .before in
+    let a = c₉ .args in
+    let l = c₄ .before .before .loop in
+    let k = c₄ .poll in
     let log′ = k .last .1 .1 .1 .1 .1 .0 in
-    let k′ = as-look Tx (l .made) (l .used) (a .budget) (a .script .now) (l .log) log′ (k .result) Unready (c .enum-told2 .given .1) (k .ensures) in
-    let wide : 2 * a .budget ≤ length (l .log) = omega (arith, l .inv .2, c .before .before .before .before .before .before .before .before .before .pre) in
-    (omega (arith, k′ .room), omega (arith, l .inv .1), k .kept .1 .1 .1 .1 .1 .0 ∙ l .inv .2, λ f send words q n m old olds h. space-waits f (a .script .now) send old olds (atStart q (a .command) n m) (a .budget) (l .made) (l .used) 0 (l .log) log′ words wide (atStart q (a .command) n m .work) (atStart q (a .command) n m .reset) k′ (l .inv .3 f send words q n m old olds h))
-
-enum-told-3 : tie.Need-enum-told-3 Inv-loop μ-loop
-enum-told-3 c = search needs
+    let k′ =
+    as-look Tx (l .made) (l .used) (a .budget) (a .script .now) (l .log) log′ (k .result) Unready
+    (c .enum-told2 .given .1) (k .ensures) in
+    let wide : 2 * a .budget ≤ length (l .log) = omega (arith, l .inv .2, c₉ .pre) in (
+      omega (arith, k′ .room),
+      omega (arith, l .inv .1),
+      k .kept .1 .1 .1 .1 .1 .0 ∙ l .inv .2,
+      λ f send words q n m old olds h.
+          space-waits f (a .script .now) send old olds (atStart q (a .command) n m) (a .budget) (l .made) (l .used) 0 (l .log) log′
+          words wide (atStart q (a .command) n m .work) (atStart q (a .command) n m .reset) k′
+          (l .inv .3 f send words q n m old olds h),
+    )
 
 add-put : tie.Need-add-put Inv-loop μ-loop
 add-put c =
-    let l = c .before .before .before .before .before .before .before .loop in
-    let a = c .before .before .before .before .before .before .before .before .before .before .args in
-    let k = c .before .before .before .before .before .poll in
-    let k′ = as-look Tx (l .made) (l .used) (a .budget) (a .script .now) (l .log) (k .last .1 .1 .1 .1 .1 .0) (k .result) Ready (c .before .enum-told3 .given .1) (k .ensures) in
-    omega (arith, k′ .room, c .before .before .before .before .before .before .before .before .before .before .fits .budget)
-
-offset-requires : tie.Need-offset-requires Inv-loop μ-loop
-offset-requires c κs = search needs
+    let c₅ = c .before .before .before .before .before in
+    let c₁₀ = c₅ .before .before .before .before .before in
+    let l = c₅ .before .before .loop in
+    let a = c₁₀ .args in
+    let k = c₅ .poll in
+    let k′ =
+    as-look Tx (l .made) (l .used) (a .budget) (a .script .now) (l .log) (k .last .1 .1 .1 .1 .1 .0) (k .result) Ready
+    (c .before .enum-told3 .given .1) (k .ensures) in
+    omega (arith, k′ .room, c₁₀ .fits .budget)
 
 add-put-2 : tie.Need-add-put-2 Inv-loop μ-loop
 add-put-2 c = omega (arith, c .offset .ensures)
 
 put-requires : tie.Need-put-requires Inv-loop μ-loop
 put-requires c κs =
-    let l = c .before .before .before .before .before .before .before .before .loop in
-    let a = c .before .before .before .before .before .before .before .before .before .before .before .args in
-    let k = c .before .before .before .before .before .before .poll in
-    let k′ = as-look Tx (l .made) (l .used) (a .budget) (a .script .now) (l .log) (k .last .1 .1 .1 .1 .1 .0) (k .result) Ready (c .before .before .enum-told3 .given .1) (k .ensures) in
-    omega (arith, k′ .room, k .kept .1 .1 .1 .1 .1 .0, l .inv .2, c .before .before .before .before .before .before .before .before .before .before .before .pre)
+    let c₆ = c .before .before .before .before .before .before in
+    let c₁₁ = c₆ .before .before .before .before .before in
+    let l = c₆ .before .before .loop in
+    let a = c₁₁ .args in
+    let k = c₆ .poll in
+    let k′ =
+    as-look Tx (l .made) (l .used) (a .budget) (a .script .now) (l .log) (k .last .1 .1 .1 .1 .1 .0) (k .result) Ready
+    (c .before .before .enum-told3 .given .1) (k .ensures) in
+    omega (arith, k′ .room, k .kept .1 .1 .1 .1 .1 .0, l .inv .2, c₁₁ .pre)
 
 add-t15 : tie.Need-add-t15 Inv-loop μ-loop
 add-t15 c =
-    let l = c .before .before .before .before .before .before .before .before .before .before .before .loop in
-    let a = c .before .before .before .before .before .before .before .before .before .before .before .before .before .before .args in
-    let k = c .before .before .before .before .before .before .before .before .before .poll in
-    let k′ = as-look Tx (l .made) (l .used) (a .budget) (a .script .now) (l .log) (k .last .1 .1 .1 .1 .1 .0) (k .result) Ready (c .before .before .before .before .before .enum-told3 .given .1) (k .ensures) in
-    omega (arith, k′ .room, c .before .before .before .before .before .before .before .before .before .before .before .before .before .before .fits .budget)
+    let c₅ = c .before .before .before .before .before in
+    let c₉ = c₅ .before .before .before .before in
+    let c₁₄ = c₉ .before .before .before .before .before in
+    let l = c₉ .before .before .loop in
+    let a = c₁₄ .args in
+    let k = c₉ .poll in
+    let k′ =
+    as-look Tx (l .made) (l .used) (a .budget) (a .script .now) (l .log) (k .last .1 .1 .1 .1 .1 .0) (k .result) Ready
+    (c₅ .enum-told3 .given .1) (k .ensures) in
+    omega (arith, k′ .room, c₁₄ .fits .budget)
 
 add-t19 : tie.Need-add-t19 Inv-loop μ-loop
 add-t19 c =
-    let l = c .before .before .before .before .before .before .before .before .before .before .before .loop in
-    let a = c .before .before .before .before .before .before .before .before .before .before .before .before .before .before .args in
-    let k = c .before .before .before .before .before .before .before .before .before .poll in
-    let k′ = as-look Tx (l .made) (l .used) (a .budget) (a .script .now) (l .log) (k .last .1 .1 .1 .1 .1 .0) (k .result) Ready (c .before .before .before .before .before .enum-told3 .given .1) (k .ensures) in
-    omega (arith, k′ .room, l .inv .1, c .before .before .before .before .before .before .before .before .before .before .before .before .before .before .fits .budget)
+    let c₅ = c .before .before .before .before .before in
+    let c₉ = c₅ .before .before .before .before in
+    let c₁₄ = c₉ .before .before .before .before .before in
+    let l = c₉ .before .before .loop in
+    let a = c₁₄ .args in
+    let k = c₉ .poll in
+    let k′ =
+    as-look Tx (l .made) (l .used) (a .budget) (a .script .now) (l .log) (k .last .1 .1 .1 .1 .1 .0) (k .result) Ready
+    (c₅ .enum-told3 .given .1) (k .ensures) in
+    omega (arith, k′ .room, l .inv .1, c₁₄ .fits .budget)
 
 same-length-2 : tie.Need-same-length-2 Inv-loop μ-loop
-same-length-2 c = c .before .before .put .kept .0 ∙ c .before .before .before .before .before .before .before .before .before .poll .kept .1 .1 .1 .1 .1 .0 ∙ c .before .before .before .before .before .before .before .before .before .before .before .loop .inv .2
+same-length-2 c =
+    let c₉ = c .before .before .before .before .before .before .before .before .before in
+    c .before .before .put .kept .0 ∙ c₉ .poll .kept .1 .1 .1 .1 .1 .0 ∙ c₉ .before .before .loop .inv .2
 
 returns-2 : tie.Need-returns-2 Inv-loop μ-loop
 returns-2 c =
-    let a = c .before .before .before .before .before .before .before .before .before .before .before .before .before .before .args in
-    let l = c .before .before .before .before .before .before .before .before .before .before .before .loop in
-    let k = c .before .before .before .before .before .before .before .before .before .poll in
+    let c₅ = c .before .before .before .before .before in
+    let c₉ = c₅ .before .before .before .before in
+    let c₁₄ = c₉ .before .before .before .before .before in
+    let a = c₁₄ .args in
+    let l = c₉ .before .before .loop in
+    let k = c₉ .poll in
     let log′ = k .last .1 .1 .1 .1 .1 .0 in
-    let k′ = as-look Tx (l .made) (l .used) (a .budget) (a .script .now) (l .log) log′ (k .result) Ready (c .before .before .before .before .before .enum-told3 .given .1) (k .ensures) in
-    let wide : 2 * a .budget ≤ length (l .log) = omega (arith, l .inv .2, c .before .before .before .before .before .before .before .before .before .before .before .before .before .before .pre) in
-    let logged = c .before .before .put .ensures ∙ ap (λ (x : ℕ). put log′ (l .made + 3) (0x1000 + x) (a .command)) (c .before .before .before .offset .ensures) in
-    (k′ .room, omega (arith, l .inv .1), refl, λ f send words q n m old olds h. space-commands f (a .script .now) send old olds (atStart q (a .command) n m) (a .budget) (l .made) (l .used) 0 (l .log) log′ words wide (atStart q (a .command) n m .work) (atStart q (a .command) n m .reset) (c .before .before .put .last .0) k′ logged (l .inv .3 f send words q n m old olds h))
+    let k′ =
+    as-look Tx (l .made) (l .used) (a .budget) (a .script .now) (l .log) log′ (k .result) Ready
+    (c₅ .enum-told3 .given .1) (k .ensures) in
+    let wide : 2 * a .budget ≤ length (l .log) = omega (arith, l .inv .2, c₁₄ .pre) in
+    let logged =
+    c .before .before .put .ensures
+    ∙ ap (λ (x : ℕ). put log′ (l .made + 3) (0x1000 + x) (a .command)) (c .before .before .before .offset .ensures) in (
+      k′ .room,
+      omega (arith, l .inv .1),
+      refl,
+      λ f send words q n m old olds h.
+          space-commands f (a .script .now) send old olds (atStart q (a .command) n m) (a .budget) (l .made) (l .used) 0 (l .log)
+          log′ words wide (atStart q (a .command) n m .work) (atStart q (a .command) n m .reset) (c .before .before .put .last .0)
+          k′ logged (l .inv .3 f send words q n m old olds h),
+    )
 
 pub wait-for-space-spec : {M : Type 1} → statement M
 wait-for-space-spec =
@@ -147,17 +207,17 @@ wait-for-space-spec =
     μ-loop
     loop-holds
     poll-requires
-    enum-told
+    (λ c. search needs)
     same-length
     returns
-    enum-told-2
+    (λ c. search needs)
     add-made
     add-used
     loop-less
     loop-again
-    enum-told-3
+    (λ c. search needs)
     add-put
-    offset-requires
+    (λ c κs. search needs)
     add-put-2
     put-requires
     add-t15

@@ -5,12 +5,6 @@ use borrow.Author.Needs.{needs}
 use Rattle.runs.proofs.fast.turns.due.Statement.{statement}
 use Rattle.runs.proofs.fast.turns.due.Tie as tie
 
-same-requires : tie.Need-same-requires
-same-requires c κs = search needs
-
-has-more-requires : tie.Need-has-more-requires
-has-more-requires c κs = search needs
-
 returns : tie.Need-returns
 returns c = rw (sym (c .before .before .same .ensures) ∙ c .before .if1 .taken) (c .has-more .ensures)
 
@@ -18,4 +12,4 @@ returns-2 : tie.Need-returns-2
 returns-2 c = rw (sym (c .before .same .ensures) ∙ c .if1 .left)
 
 pub due-spec : {M : Type 1} → statement M
-due-spec = tie.close (tie.spec same-requires has-more-requires returns returns-2)
+due-spec = tie.close (tie.spec (λ c κs. search needs) (λ c κs. search needs) returns returns-2)

@@ -4,12 +4,6 @@ use borrow.Author.Needs.{needs}
 use Rattle.runs.proofs.fast.turns.has_more.Statement.{statement}
 use Rattle.runs.proofs.fast.turns.has_more.Tie as tie
 
-enum-told : tie.Need-enum-told
-enum-told c = search needs
-
-enum-told-2 : tie.Need-enum-told-2
-enum-told-2 c = search needs
-
 returns : tie.Need-returns
 returns c = simp (c .before .enum-told .given .1)
 
@@ -17,4 +11,4 @@ returns-2 : tie.Need-returns-2
 returns-2 c = simp (c .before .enum-told2 .given .1)
 
 pub has-more-spec : {M : Type 1} → statement M
-has-more-spec = tie.close (tie.spec enum-told enum-told-2 returns returns-2)
+has-more-spec = tie.close (tie.spec (λ c. search needs) (λ c. search needs) returns returns-2)

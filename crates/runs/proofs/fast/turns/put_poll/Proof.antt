@@ -6,7 +6,16 @@ use Rattle.runs.proofs.fast.turns.put_poll.Tie as tie
 
 returns : tie.Need-returns
 returns c =
-    simp (c .before .before .put3 .ensures, c .before .before .before .offset3 .ensures, c .before .before .before .before .before .before .before .put2 .ensures, c .before .before .before .before .before .before .before .before .offset2 .ensures, c .before .before .before .before .before .before .before .before .before .before .before .before .put .ensures, c .before .before .before .before .before .before .before .before .before .before .before .before .before .offset .ensures)
+    let c₇ = c .before .before .before .before .before .before .before in
+    let c₁₂ = c₇ .before .before .before .before .before in
+    simp (
+      c .before .before .put3 .ensures,
+      c .before .before .before .offset3 .ensures,
+      c₇ .put2 .ensures,
+      c₇ .before .offset2 .ensures,
+      c₁₂ .put .ensures,
+      c₁₂ .before .offset .ensures,
+    )
 
 pub put-poll-spec : {M : Type 1} → statement M
 put-poll-spec =

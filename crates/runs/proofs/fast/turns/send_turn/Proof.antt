@@ -15,87 +15,92 @@ use borrow.Author.Needs.{needs}
 use Rattle.runs.proofs.fast.turns.send_turn.Statement.{statement}
 use Rattle.runs.proofs.fast.turns.send_turn.Tie as tie
 
-poll-requires : tie.Need-poll-requires
-poll-requires c κs = search needs
-
-enum-told : tie.Need-enum-told
-enum-told c = search needs
-
-enum-told-2 : tie.Need-enum-told-2
-enum-told-2 c = search needs
-
-wait-requires : tie.Need-wait-requires
-wait-requires c κs = search needs
-
-enum-told-3 : tie.Need-enum-told-3
-enum-told-3 c = search needs
-
 send-word-requires : tie.Need-send-word-requires
 send-word-requires c κs =
-    let a = c .before .before .before .before .before .before .before .before .before .before .before .before .args in
-    let k = c .before .before .before .before .before .poll in
+    let c₅ = c .before .before .before .before .before in
+    let c₁₂ = c₅ .before .before .before .before .before .before .before in
+    let a = c₁₂ .args in
+    let k = c₅ .poll in
     let log′ = k .last .1 .1 .1 .1 .1 .0 in
-    let q = as-look Tx (a .t .spot .made) (a .t .spot .used) (a .budget) (a .script .now) (a .log .now) log′ (k .result) Ready (c .before .enum-told3 .given .1) (k .ensures) in
-    let i = c .before .before .before .before .before .before .before .before .before .before .before .before .pre .0 in
-    (omega (arith, q .room, c .before .before .before .before .before .before .before .before .before .before .before .before .pre .1, k .kept .1 .1 .1 .1 .1 .0), i .used, i .sent)
-
-same-length : tie.Need-same-length
-same-length c = search needs
+    let q =
+    as-look Tx (a .t .spot .made) (a .t .spot .used) (a .budget) (a .script .now) (a .log .now) log′ (k .result) Ready
+    (c .before .enum-told3 .given .1) (k .ensures) in
+    let i = c₁₂ .pre .0 in
+    (omega (arith, q .room, c₁₂ .pre .1, k .kept .1 .1 .1 .1 .1 .0), i .used, i .sent)
 
 returns : tie.Need-returns
 returns c =
-    let a = c .before .before .before .before .before .before .before .before .before .before .before .args in
-    let k = c .before .before .before .before .poll in
+    let c₄ = c .before .before .before .before in
+    let a = c₄ .before .before .before .before .before .before .before .args in
+    let k = c₄ .poll in
     let log′ = k .last .1 .1 .1 .1 .1 .0 in
-    let q = as-look Tx (a .t .spot .made) (a .t .spot .used) (a .budget) (a .script .now) (a .log .now) log′ (k .result) Rare (c .enum-told .given .1) (k .ensures) in
+    let q =
+    as-look Tx (a .t .spot .made) (a .t .spot .used) (a .budget) (a .script .now) (a .log .now) log′ (k .result) Rare
+    (c .enum-told .given .1) (k .ensures) in
     λ n e. (q, refl)
-
-same-length-2 : tie.Need-same-length-2
-same-length-2 c = search needs
 
 returns-2 : tie.Need-returns-2
 returns-2 c =
-    let a = c .before .before .before .before .before .before .before .before .before .before .before .before .args in
-    let k = c .before .before .before .before .before .poll in
+    let c₅ = c .before .before .before .before .before in
+    let c₁₂ = c₅ .before .before .before .before .before .before .before in
+    let a = c₁₂ .args in
+    let k = c₅ .poll in
     let log′ = k .last .1 .1 .1 .1 .1 .0 in
-    let q = as-look Tx (a .t .spot .made) (a .t .spot .used) (a .budget) (a .script .now) (a .log .now) log′ (k .result) Unready (c .before .enum-told2 .given .1) (k .ensures) in
-    let p = c .before .before .before .before .before .before .before .before .before .before .before .before .pre in
+    let q =
+    as-look Tx (a .t .spot .made) (a .t .spot .used) (a .budget) (a .script .now) (a .log .now) log′ (k .result) Unready
+    (c .before .enum-told2 .given .1) (k .ensures) in
+    let p = c₁₂ .pre in
     λ n e.
     let d = due-side Tx n (a .t) e in
-    let whole = subst (λ (x : Direction). Whole x (a .t .spot .made) (a .t .spot .used) (a .budget) (a .script .now) (a .log .now) log′ unready) (sym (d .0)) q in
+    let whole =
+    subst
+    (λ (x : Direction). Whole x (a .t .spot .made) (a .t .spot .used) (a .budget) (a .script .now) (a .log .now) log′ unready)
+    (sym (d .0)) q in
     let more = subst (λ (x : Direction). hasMore x n (a .t .sent) (a .t .spot .received) ≡ true) (sym (d .0)) (d .1) in
-    subst (λ (u : Turns). Turned (a .frame) (a .script .now) (a .sent-words .now) n (a .budget) (a .t) (a .log .now) (a .received-words .now) log′ (a .received-words .now) (Made u)) (sym (c .wait .ensures))
-    (made-waits (a .frame) (a .script .now) (a .sent-words .now) n (a .budget) (a .t) (a .log .now) log′ (a .received-words .now) (p .1) (p .0) more whole)
-
-same-length-3 : tie.Need-same-length-3
-same-length-3 c = search needs
+    subst
+    (λ (u : Turns).
+    Turned (a .frame) (a .script .now) (a .sent-words .now) n (a .budget) (a .t) (a .log .now) (a .received-words .now) log′
+    (a .received-words .now) (Made u))
+    (sym (c .wait .ensures))
+    (made-waits (a .frame) (a .script .now) (a .sent-words .now) n (a .budget) (a .t) (a .log .now) log′
+    (a .received-words .now) (p .1) (p .0) more whole)
 
 returns-3 : tie.Need-returns-3
 returns-3 c =
-    let a = c .before .before .before .before .before .before .before .before .before .before .before .before .before .before .before .args in
-    let k = c .before .before .before .before .before .before .before .before .poll in
+    let c₄ = c .before .before .before .before in
+    let c₈ = c₄ .before .before .before .before in
+    let c₁₅ = c₈ .before .before .before .before .before .before .before in
+    let a = c₁₅ .args in
+    let k = c₈ .poll in
     let log′ = k .last .1 .1 .1 .1 .1 .0 in
-    let q = as-look Tx (a .t .spot .made) (a .t .spot .used) (a .budget) (a .script .now) (a .log .now) log′ (k .result) Ready (c .before .before .before .before .enum-told3 .given .1) (k .ensures) in
-    let p = c .before .before .before .before .before .before .before .before .before .before .before .before .before .before .before .pre in
+    let q =
+    as-look Tx (a .t .spot .made) (a .t .spot .used) (a .budget) (a .script .now) (a .log .now) log′ (k .result) Ready
+    (c₄ .enum-told3 .given .1) (k .ensures) in
+    let p = c₁₅ .pre in
     let s = c .before .before .send-word in
     λ n e.
     let d = due-side Tx n (a .t) e in
-    subst (λ (u : Turns). Turned (a .frame) (a .script .now) (a .sent-words .now) n (a .budget) (a .t) (a .log .now) (a .received-words .now) (s .last .1 .1 .0) (a .received-words .now) (Made u)) (sym (s .ensures .0))
-    (made-sends (a .frame) (a .script .now) (a .sent-words .now) n (a .budget) (a .t) (a .log .now) log′ (a .received-words .now) (p .1) (p .0) (s .last .1 .1 .0) (d .0) (d .1) q (s .ensures .1))
+    subst
+    (λ (u : Turns).
+    Turned (a .frame) (a .script .now) (a .sent-words .now) n (a .budget) (a .t) (a .log .now) (a .received-words .now)
+    (s .last .1 .1 .0) (a .received-words .now) (Made u))
+    (sym (s .ensures .0))
+    (made-sends (a .frame) (a .script .now) (a .sent-words .now) n (a .budget) (a .t) (a .log .now) log′
+    (a .received-words .now) (p .1) (p .0) (s .last .1 .1 .0) (d .0) (d .1) q (s .ensures .1))
 
 pub send-turn-spec : {M : Type 1} → statement M
 send-turn-spec =
     tie.close
     (tie.spec
-    poll-requires
-    enum-told
-    enum-told-2
-    wait-requires
-    enum-told-3
+    (λ c κs. search needs)
+    (λ c. search needs)
+    (λ c. search needs)
+    (λ c κs. search needs)
+    (λ c. search needs)
     send-word-requires
-    same-length
+    (λ c. search needs)
     returns
-    same-length-2
+    (λ c. search needs)
     returns-2
-    same-length-3
+    (λ c. search needs)
     returns-3)

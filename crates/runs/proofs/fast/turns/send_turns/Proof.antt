@@ -13,7 +13,8 @@ use Rattle.runs.proofs.fast.turns.send_turns.Statement.{statement}
 use Rattle.runs.proofs.fast.turns.send_turns.Tie as tie
 
 abbrev Inv-loop : tie.InvT-loop
-Inv-loop count frame budget script log₀ send words t₀ log t = Within budget (length words) t × (length log ≡ length log₀) × Onward frame script send count t₀ log₀ words t log words
+Inv-loop count frame budget script log₀ send words t₀ log t =
+    Within budget (length words) t × (length log ≡ length log₀) × Onward frame script send count t₀ log₀ words t log words
 
 abbrev μ-loop : tie.MeasureT-loop
 μ-loop count frame budget script log₀ send words t₀ log t = budget - t .spot .made
@@ -21,47 +22,60 @@ abbrev μ-loop : tie.MeasureT-loop
 loop-holds : tie.Need-loop-holds Inv-loop μ-loop
 loop-holds c = (c .before .before .before .before .pre .0, refl, λ m old olds en er h. h)
 
-due-requires : tie.Need-due-requires Inv-loop μ-loop
-due-requires c κs = search needs
-
 send-turn-requires : tie.Need-send-turn-requires Inv-loop μ-loop
-send-turn-requires c κs = let l = c .before .before .before .loop in (l .inv .0, omega (arith, l .inv .1, c .before .before .before .before .before .before .before .before .pre .1))
-
-enum-known-u : tie.Need-enum-known-u Inv-loop μ-loop
-enum-known-u c = search needs
+send-turn-requires c κs =
+    let l = c .before .before .before .loop in
+    (l .inv .0, omega (arith, l .inv .1, c .before .before .before .before .before .before .before .before .pre .1))
 
 loop-less : tie.Need-loop-less Inv-loop μ-loop
 loop-less c =
-    let a = c .before .before .before .before .before .before .before .before .before .before .before .before .before .before .args in
-    let l = c .before .before .before .before .before .before .before .before .before .loop in
-    let k = c .before .before .before .before .before .send-turn in
-    let q = as-turn (a .frame) (a .script .now) (a .sent-words .now) (a .count) (a .budget) (l .t) (l .log) (a .received-words .now) (k .last .1 .1 .1 .1 .0) (a .received-words .now) (k .result) (Made (c .before .u .given .0 .0)) (c .before .u .given .1) (k .ensures (a .count) (sym (c .before .before .before .before .before .before .before .before .due .ensures) ∙ c .before .before .before .before .before .before .before .if1 .taken)) in
+    let c₅ = c .before .before .before .before .before in
+    let c₉ = c₅ .before .before .before .before in
+    let a = c₉ .before .before .before .before .before .args in
+    let l = c₉ .loop in
+    let k = c₅ .send-turn in
+    let q =
+    as-turn (a .frame) (a .script .now) (a .sent-words .now) (a .count) (a .budget) (l .t) (l .log) (a .received-words .now)
+    (k .last .1 .1 .1 .1 .0) (a .received-words .now) (k .result) (Made (c .before .u .given .0 .0)) (c .before .u .given .1)
+    (k .ensures (a .count) (sym (c₅ .before .before .before .due .ensures) ∙ c₅ .before .before .if1 .taken)) in
     omega (arith, q .0, q .1 .made)
 
 loop-again : tie.Need-loop-again Inv-loop μ-loop
 loop-again c =
-    let a = c .before .before .before .before .before .before .before .before .before .before .before .before .before .before .args in
-    let l = c .before .before .before .before .before .before .before .before .before .loop in
-    let k = c .before .before .before .before .before .send-turn in
-    let q = as-turn (a .frame) (a .script .now) (a .sent-words .now) (a .count) (a .budget) (l .t) (l .log) (a .received-words .now) (k .last .1 .1 .1 .1 .0) (a .received-words .now) (k .result) (Made (c .before .u .given .0 .0)) (c .before .u .given .1) (k .ensures (a .count) (sym (c .before .before .before .before .before .before .before .before .due .ensures) ∙ c .before .before .before .before .before .before .before .if1 .taken)) in
+    let c₅ = c .before .before .before .before .before in
+    let c₉ = c₅ .before .before .before .before in
+    let a = c₉ .before .before .before .before .before .args in
+    let l = c₉ .loop in
+    let k = c₅ .send-turn in
+    let q =
+    as-turn (a .frame) (a .script .now) (a .sent-words .now) (a .count) (a .budget) (l .t) (l .log) (a .received-words .now)
+    (k .last .1 .1 .1 .1 .0) (a .received-words .now) (k .result) (Made (c .before .u .given .0 .0)) (c .before .u .given .1)
+    (k .ensures (a .count) (sym (c₅ .before .before .before .due .ensures) ∙ c₅ .before .before .if1 .taken)) in
     (q .1, k .kept .1 .1 .1 .1 .0 ∙ l .inv .1, λ m old olds en er h. q .2 m old olds en er (l .inv .2 m old olds en er h))
 
-enum-told : tie.Need-enum-told Inv-loop μ-loop
-enum-told c = search needs
-
 same-length : tie.Need-same-length Inv-loop μ-loop
-same-length c = c .before .before .before .before .send-turn .kept .1 .1 .1 .1 .0 ∙ c .before .before .before .before .before .before .before .before .loop .inv .1
+same-length c =
+    let c₄ = c .before .before .before .before in
+    c₄ .send-turn .kept .1 .1 .1 .1 .0 ∙ c₄ .before .before .before .before .loop .inv .1
 
 returns : tie.Need-returns Inv-loop μ-loop
 returns c =
-    let a = c .before .before .before .before .before .before .before .before .before .before .before .before .before .args in
-    let l = c .before .before .before .before .before .before .before .before .loop in
-    let k = c .before .before .before .before .send-turn in
-    let q = as-turn (a .frame) (a .script .now) (a .sent-words .now) (a .count) (a .budget) (l .t) (l .log) (a .received-words .now) (k .last .1 .1 .1 .1 .0) (a .received-words .now) (k .result) Undone (c .enum-told .given .1) (k .ensures (a .count) (sym (c .before .before .before .before .before .before .before .due .ensures) ∙ c .before .before .before .before .before .before .if1 .taken)) in
-    (l .inv .0, subst (λ (x : List ℕ). Onward (a .frame) (a .script .now) (a .sent-words .now) (a .count) (a .first) (a .log .now) (a .received-words .now) (l .t) x (a .received-words .now)) (sym (q .0)) (l .inv .2))
-
-pass-requires : tie.Need-pass-requires Inv-loop μ-loop
-pass-requires c κs = search needs
+    let c₄ = c .before .before .before .before in
+    let c₈ = c₄ .before .before .before .before in
+    let a = c₈ .before .before .before .before .before .args in
+    let l = c₈ .loop in
+    let k = c₄ .send-turn in
+    let q =
+    as-turn (a .frame) (a .script .now) (a .sent-words .now) (a .count) (a .budget) (l .t) (l .log) (a .received-words .now)
+    (k .last .1 .1 .1 .1 .0) (a .received-words .now) (k .result) Undone (c .enum-told .given .1)
+    (k .ensures (a .count) (sym (c₄ .before .before .before .due .ensures) ∙ c₄ .before .before .if1 .taken)) in (
+      l .inv .0,
+      subst
+          (λ (x : List ℕ).
+          Onward (a .frame) (a .script .now) (a .sent-words .now) (a .count) (a .first) (a .log .now) (a .received-words .now)
+          (l .t) x (a .received-words .now))
+          (sym (q .0)) (l .inv .2),
+    )
 
 same-length-2 : tie.Need-same-length-2 Inv-loop μ-loop
 same-length-2 c = c .before .before .before .loop .inv .1
@@ -71,7 +85,8 @@ returns-2 c =
     let a = c .before .before .before .before .before .before .before .before .args in
     let l = c .before .before .before .loop in (
       within-passed (a .count) (a .budget) (length (a .received-words .now)) (l .t) (c .pass .result) (c .pass .ensures) (l .inv .0),
-      onward-passed (a .frame) (a .script .now) (a .sent-words .now) (a .count) (a .first) (l .t) (c .pass .result) (a .log .now) (a .received-words .now) (l .log) (a .received-words .now) (c .pass .ensures) (l .inv .2),
+      onward-passed (a .frame) (a .script .now) (a .sent-words .now) (a .count) (a .first) (l .t) (c .pass .result)
+          (a .log .now) (a .received-words .now) (l .log) (a .received-words .now) (c .pass .ensures) (l .inv .2),
     )
 
 pub send-turns-spec : {M : Type 1} → statement M
@@ -81,14 +96,14 @@ send-turns-spec =
     Inv-loop
     μ-loop
     loop-holds
-    due-requires
+    (λ c κs. search needs)
     send-turn-requires
-    enum-known-u
+    (λ c. search needs)
     loop-less
     loop-again
-    enum-told
+    (λ c. search needs)
     same-length
     returns
-    pass-requires
+    (λ c κs. search needs)
     same-length-2
     returns-2)
