@@ -1,6 +1,6 @@
 //! Resets, and calls without a value.
 
-use crate::{raw, Direction, Driver, Run};
+use crate::{Direction, Driver, Run, raw};
 
 /// Resets the peripheral and restores its settings, the clock from the cache.
 #[inline]

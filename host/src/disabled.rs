@@ -1,7 +1,7 @@
 //! Settings that are changed while the peripheral is disabled. Each call also
 //! disables it, and enables it again if it was.
 
-use crate::{raw, Driver, Run};
+use crate::{Driver, Run, raw};
 
 /// When an input bit is sampled.
 #[derive(Debug, Clone, Copy, PartialEq, Eq)]

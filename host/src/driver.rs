@@ -1,6 +1,6 @@
 //! The driver value, and what a run came to.
 
-use crate::{answer, BitOrder, Error};
+use crate::{BitOrder, Error, answer};
 
 /// The driver's settings and its clock cache.
 #[derive(Debug, Clone, Copy, PartialEq, Eq, Default)]

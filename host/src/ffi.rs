@@ -3,7 +3,7 @@
 //! A slice is a pointer and a length. Every function is defined for every
 //! input, provided that the pointers are valid for their lengths.
 
-extern "C" {
+unsafe extern "C" {
     #[allow(clippy::too_many_arguments)]
     pub fn lpspi_command(
         frame_size: u32,
@@ -117,7 +117,7 @@ extern "C" {
 /// The transfers and trials of buffers of one element type.
 macro_rules! transfers {
     ($($transfer:ident, $trial:ident of $element:ty;)*) => {
-        extern "C" {
+        unsafe extern "C" {
             $(
                 #[allow(clippy::too_many_arguments)]
                 fn $transfer(

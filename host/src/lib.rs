@@ -7,7 +7,6 @@
 //! A read takes the next answer of the script. The log has two words for each
 //! access: the register's offset, plus 0x1000 for a write, and the value. It
 //! must have room for the whole budget; places past the accesses made are kept.
-#![warn(missing_docs)]
 
 mod calls;
 mod disabled;
@@ -24,14 +23,14 @@ pub use calls::{
     set_enable, soft_reset,
 };
 pub use disabled::{
-    set_chip_select_polarity, set_clock_configs, set_clock_hz, set_peripheral_enable,
-    set_sample_point, PcsPolarity, SamplePoint,
+    PcsPolarity, SamplePoint, set_chip_select_polarity, set_clock_configs, set_clock_hz,
+    set_peripheral_enable, set_sample_point,
 };
 pub use driver::{Driver, Run};
-pub use transfers::{exchange, exchange_separate, flush, read_no_write, write_no_read, Element};
-pub use trial::{trial, Board, EndState, Trial};
+pub use transfers::{Element, exchange, exchange_separate, flush, read_no_write, write_no_read};
+pub use trial::{Board, EndState, Trial, trial};
 pub use values::{
-    fifo_status, is_enabled, read_data, set_watermark, status, watermark, FifoStatus,
+    FifoStatus, fifo_status, is_enabled, read_data, set_watermark, status, watermark,
 };
 
 use std::fmt;

@@ -14,9 +14,9 @@
 mod runs;
 mod trial;
 
-use crate::{ffi, BitOrder, Command};
+use crate::{BitOrder, Command, ffi};
 pub use runs::{disabled, flush, get, reset, set, transfer};
-pub use trial::{trial, END_STATE};
+pub use trial::{END_STATE, trial};
 
 /// The TCR word of a command.
 #[inline]

@@ -1,6 +1,6 @@
 //! Transfers of buffers, and `flush`. They leave the driver as it was.
 
-use crate::{ffi, raw, Driver, Run};
+use crate::{Driver, Run, ffi, raw};
 
 /// An element of a buffer: 8, 16 or 32 bits.
 pub trait Element: ffi::Exported {}

@@ -1,7 +1,7 @@
 //! Trials: two boards on one bus, and a list of events.
 
 use crate::raw::{self, END_STATE};
-use crate::{answer, Driver, Element, Error};
+use crate::{Driver, Element, Error, answer};
 
 /// What an end of the bus starts with.
 #[derive(Debug)]

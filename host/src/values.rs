@@ -1,7 +1,7 @@
 //! Calls with a value: it stands beside the run, and is 0, false or none unless
 //! the run is Ok.
 
-use crate::{raw, Direction, Driver, Run};
+use crate::{Direction, Driver, Run, raw};
 
 /// The number of words in each FIFO, and its capacity as the driver takes it.
 #[derive(Debug, Clone, Copy, PartialEq, Eq, Default)]

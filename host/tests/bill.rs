@@ -4,11 +4,11 @@
 mod common;
 
 use common::buslog::documented;
-use common::random_runs::{random_driver, Mood};
+use common::random_runs::{Mood, random_driver};
 use common::registers::{FSR, SR, TCR, WRITE};
-use common::run::{found, Limits, MAX_BUDGET};
+use common::run::{Limits, MAX_BUDGET, found};
 use common::transfer::{Element, Kind, Transfer};
-use common::{walk, Random};
+use common::{Random, walk};
 use lpspi_host::raw;
 
 /// w, counted off the log alone: behind an unready poll the next one begins at once, so that a read of FSR is followed by a read of SR.

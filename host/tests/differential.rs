@@ -2,8 +2,8 @@
 
 mod common;
 
-use common::{lengths, Random};
-use lpspi_host::{raw, reference, BitOrder, Command, Error};
+use common::{Random, lengths};
+use lpspi_host::{BitOrder, Command, Error, raw, reference};
 
 /// The number and out-value that a call must give.
 fn expected(answer: Result<u32, Error>, found: u32) -> (u32, u32) {

@@ -2,9 +2,9 @@
 
 mod common;
 
-use common::{lengths, Random};
+use common::{Random, lengths};
 use lpspi_host::BitOrder::{Lsb, Msb};
-use lpspi_host::{clock, pack_u8, pack_words_u8, unpack_u8, unpack_words_u8, BitOrder};
+use lpspi_host::{BitOrder, clock, pack_u8, pack_words_u8, unpack_u8, unpack_words_u8};
 
 /// The word with the places above its `count` elements zero.
 fn low_elements(word: u32, count: usize) -> u32 {

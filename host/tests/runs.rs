@@ -2,10 +2,10 @@
 
 mod common;
 
-use common::buslog::{example_output, printed};
-use common::run::{found, Left, EXAMPLE_SCRIPT};
 use common::Random;
-use lpspi_host::{exchange_separate, flush, raw, Driver, Element, Run};
+use common::buslog::{example_output, printed};
+use common::run::{EXAMPLE_SCRIPT, Left, found};
+use lpspi_host::{Driver, Element, Run, exchange_separate, flush, raw};
 use std::fmt::Debug;
 
 #[test]

@@ -3,10 +3,10 @@
 
 mod common;
 
+use common::Random;
 use common::registers::{CCR, MEN, WRITE};
 use common::run::found;
-use common::Random;
-use lpspi_host::{clock, set_clock_hz, Driver};
+use lpspi_host::{Driver, clock, set_clock_hz};
 
 fn sckdiv(word: u32) -> u32 {
     word & 0xFF

@@ -1,7 +1,7 @@
 //! Trials of two boards on one bus: what the ends show, and what a refusal leaves.
 
 use lpspi_host::raw::{self, END_STATE};
-use lpspi_host::{trial, BitOrder, Board, Direction, Driver, Element, EndState, Error, Trial};
+use lpspi_host::{BitOrder, Board, Direction, Driver, Element, EndState, Error, Trial, trial};
 use std::fmt::Debug;
 
 /// Events by the letters of the program `trial`.

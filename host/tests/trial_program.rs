@@ -2,9 +2,9 @@
 
 mod common;
 
-use common::document::shown;
 use common::Random;
-use lpspi_host::{trial, BitOrder, Board, Driver, Element, Error};
+use common::document::shown;
+use lpspi_host::{BitOrder, Board, Driver, Element, Error, trial};
 use std::fmt::LowerHex;
 
 /// The longest input that is taken.

@@ -2,8 +2,8 @@
 
 mod common;
 
-use common::{lengths, Random};
-use lpspi_host::{clock, command, pack_words_u8, unpack_words_u8, BitOrder};
+use common::{Random, lengths};
+use lpspi_host::{BitOrder, clock, command, pack_words_u8, unpack_words_u8};
 
 #[test]
 #[cfg_attr(not(original), ignore = "the original is missing")]

@@ -2,8 +2,8 @@
 
 use lpspi_host::BitOrder::{Lsb, Msb};
 use lpspi_host::{
-    clock, command, pack_u8, pack_words_u8, raw, unpack_u8, unpack_words_u8, BitOrder, Command,
-    Direction, Error,
+    BitOrder, Command, Direction, Error, clock, command, pack_u8, pack_words_u8, raw, unpack_u8,
+    unpack_words_u8,
 };
 
 /// A value that no call below gives.

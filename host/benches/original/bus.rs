@@ -1,7 +1,7 @@
 //! Trials of the port: lists of events on the bus.
 
 use crate::timing::wanted;
-use lpspi_host::{trial, Board, Driver, Trial};
+use lpspi_host::{Board, Driver, Trial, trial};
 use std::hint::black_box;
 use std::time::{Duration, Instant};
 

@@ -1,8 +1,8 @@
 //! Runs over a script, on the same buffers for both sides.
 
 use crate::scripts;
-use crate::timing::{wanted, Effort, Times};
-use lpspi_host::{exchange, exchange_separate, flush, read_no_write, write_no_read, Driver, Run};
+use crate::timing::{Effort, Times, wanted};
+use lpspi_host::{Driver, Run, exchange, exchange_separate, flush, read_no_write, write_no_read};
 use original::{Call, Outcome, Transfer};
 use std::cell::RefCell;
 use std::fmt::Debug;

@@ -1,7 +1,7 @@
 //! Packing, clocks and commands. Each side is one call that is not inlined.
 
-use crate::timing::{wanted, Effort, Times};
-use lpspi_host::{raw, BitOrder, Command};
+use crate::timing::{Effort, Times, wanted};
+use lpspi_host::{BitOrder, Command, raw};
 use std::hint::black_box;
 
 const BYTES: usize = 512;

@@ -1,6 +1,6 @@
 //! Runs.
 
-use crate::{ffi, Element};
+use crate::{Element, ffi};
 
 /// A transfer: 0 `exchange_separate`, 1 `exchange` of `read`, 2 `write_no_read`
 /// of `write`, 3 `read_no_write` of `read`.

@@ -4,8 +4,8 @@ use super::branches::{Branch, FlushBranch};
 use super::cases::Tally;
 use super::registers::{BUSY, CR, ERRORS, FSR, PARAM, RXCOUNT, SR, TXCOUNT, TXFIFO, WRITE};
 use super::run::{Left, Limits, MAX_BUDGET};
-use super::transfer::{port_flush, Element, Kind, Transfer};
-use super::{walk, Random};
+use super::transfer::{Element, Kind, Transfer, port_flush};
+use super::{Random, walk};
 use lpspi_host::Driver;
 
 /// How often, in 256, an answer is of each kind.

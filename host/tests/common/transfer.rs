@@ -1,7 +1,7 @@
 //! Transfers of the port, and flushes.
 
-use super::run::{found, Left, Limits};
-use lpspi_host::{exchange, exchange_separate, flush, read_no_write, write_no_read, Driver};
+use super::run::{Left, Limits, found};
+use lpspi_host::{Driver, exchange, exchange_separate, flush, read_no_write, write_no_read};
 use std::fmt::Debug;
 
 /// An element of a buffer.

@@ -1,9 +1,9 @@
 //! Reads the branches of a run off its inputs and its log, by the rules of the scope
 //! document.
 
-use super::branches::{restored, Along, Branch, FlushBranch, Turn, RECOVERY};
+use super::branches::{Along, Branch, FlushBranch, RECOVERY, Turn, restored};
 use super::registers::{
-    BUSY, ERRORS, FSR, PARAM, RXCOUNT, RX_ERROR, SR, TXCOUNT, TXFIFO, TX_ERROR,
+    BUSY, ERRORS, FSR, PARAM, RX_ERROR, RXCOUNT, SR, TX_ERROR, TXCOUNT, TXFIFO,
 };
 use super::run::{Left, Limits};
 use super::transfer::{Element, Kind, Transfer};

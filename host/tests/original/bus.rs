@@ -4,14 +4,14 @@
 mod branches;
 mod lists;
 
+use crate::common::Random;
 use crate::common::cases::Tally;
 use crate::common::transfer::{Element, Transfer};
-use crate::common::Random;
-use branches::{reached, Branch};
+use branches::{Branch, reached};
 use lists::{Chooser, Manner};
-use lpspi_host::{raw, BitOrder};
-use original::bus::{Board, Bus, Event, Side, STATE};
+use lpspi_host::{BitOrder, raw};
 use original::Driver;
+use original::bus::{Board, Bus, Event, STATE, Side};
 use std::collections::BTreeSet;
 use std::fmt::Debug;
 

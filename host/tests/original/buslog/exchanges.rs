@@ -3,10 +3,10 @@
 use super::compare;
 use super::input::{Exchange, Shown};
 use crate::common::branches::Branch;
-use crate::common::buslog::{example_output, largest, Text, EXAMPLE_INPUT, LONGEST};
+use crate::common::buslog::{EXAMPLE_INPUT, LONGEST, Text, example_output, largest};
 use crate::common::cases::{Cases, Tally};
 use crate::common::transfer::{Element, Kind};
-use crate::common::{walk, Random};
+use crate::common::{Random, walk};
 use std::fmt::UpperHex;
 
 /// Inputs of each width.

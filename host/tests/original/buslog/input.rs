@@ -1,10 +1,10 @@
 //! Good inputs in every spelling.
 
-use crate::common::buslog::{printed, MOST_ANSWERS, MOST_ELEMENTS};
+use crate::common::Random;
+use crate::common::buslog::{MOST_ANSWERS, MOST_ELEMENTS, printed};
 use crate::common::random_runs::random_limits;
 use crate::common::run::{Left, Limits, MAX_BUDGET};
 use crate::common::transfer::{Element, Kind, Transfer};
-use crate::common::Random;
 use lpspi_host::Driver;
 use std::collections::BTreeSet;
 use std::fmt::UpperHex;

@@ -2,7 +2,7 @@
 //! and limits.
 
 use super::script::{any_word, transfer_script};
-use super::{judged_transfer, stops, Element, DRIVER, REFUSED};
+use super::{DRIVER, Element, REFUSED, judged_transfer, stops};
 use crate::common::branches::Branch;
 use crate::common::cases::{Cases, Tally};
 use crate::common::run::{Left, Limits, MAX_BUDGET};

@@ -8,10 +8,10 @@ mod sample;
 mod script;
 mod stops;
 
-use crate::common::run::{found, Left, Limits, MAX_BUDGET};
+use crate::common::run::{Left, Limits, MAX_BUDGET, found};
 use crate::common::transfer::{self, Kind, Transfer};
 use lpspi_host::{BitOrder, Driver};
-use original::{run, Call};
+use original::{Call, run};
 
 /// An element of buffers of both sides.
 trait Element: transfer::Element + original::Element {}

@@ -1,9 +1,9 @@
 //! Random transfers and flushes.
 
 use super::{judged_flush, judged_transfer};
+use crate::common::Random;
 use crate::common::random_runs::{flushes, transfers};
 use crate::common::transfer::Kind;
-use crate::common::Random;
 
 #[test]
 #[cfg_attr(not(original), ignore = "the original is missing")]

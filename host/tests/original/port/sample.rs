@@ -7,13 +7,13 @@
 //! them. (Whether a FIFO is full is told by the original's counts, as its `is_full` does.) The test holds the files against the original; with `LPSPI_SAMPLE=write` it
 //! writes them.
 
-use super::calls::{Case, CALLS};
-use super::{judged_flush, judged_transfer, Element};
+use super::calls::{CALLS, Case};
+use super::{Element, judged_flush, judged_transfer};
+use crate::common::Random;
 use crate::common::random_runs::Mood;
 use crate::common::registers::ERRORS;
-use crate::common::run::{listing, Left, Limits};
+use crate::common::run::{Left, Limits, listing};
 use crate::common::transfer::{Kind, Transfer};
-use crate::common::Random;
 use lpspi_host::Driver;
 use std::fmt::UpperHex;
 use std::path::Path;

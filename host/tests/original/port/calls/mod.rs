@@ -6,11 +6,11 @@ mod directed;
 mod random;
 
 use super::{driver_number, original_driver, refused};
-use crate::common::branches::{Table, RECOVERY};
+use crate::common::branches::{RECOVERY, Table};
 use crate::common::registers::PARAM;
-use crate::common::run::{found, Left, Limits};
-use lpspi_host::{raw, Driver};
-use original::{run, Call, ClockConfigs, Direction, Outcome, Value};
+use crate::common::run::{Left, Limits, found};
+use lpspi_host::{Driver, raw};
+use original::{Call, ClockConfigs, Direction, Outcome, Value, run};
 use std::fmt::{self, Debug, Formatter};
 
 /// The C function of a call.

@@ -1,10 +1,10 @@
 //! Random calls.
 
 use super::branches::Branch;
-use super::{Case, CALLS};
+use super::{CALLS, Case};
+use crate::common::Random;
 use crate::common::cases::Tally;
 use crate::common::run::{Limits, MAX_BUDGET};
-use crate::common::Random;
 use lpspi_host::Driver;
 
 impl Case {
@@ -31,11 +31,7 @@ impl Case {
         let small = random.flag();
         let answer = |random: &mut Random| {
             let word = random.word() & if random.chance(any_men) { !0 } else { !1 };
-            if small {
-                word & 0xFFFF_0404
-            } else {
-                word
-            }
+            if small { word & 0xFFFF_0404 } else { word }
         };
         let script = (0..random.below(40)).map(|_| answer(random)).collect();
         let budget = match random.below(40) {
