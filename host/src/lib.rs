@@ -13,7 +13,6 @@ mod disabled;
 mod driver;
 mod ffi;
 pub mod raw;
-pub mod reference;
 mod transfers;
 mod trial;
 mod values;

@@ -1,9 +1,9 @@
-//! The proved functions against `reference`.
+//! The proved functions against `common::reference`.
 
 mod common;
 
-use common::{Random, lengths};
-use lpspi_host::{BitOrder, Command, Error, raw, reference};
+use common::{Random, lengths, reference};
+use lpspi_host::{BitOrder, Command, Error, raw};
 
 /// The number and out-value that a call must give.
 fn expected(answer: Result<u32, Error>, found: u32) -> (u32, u32) {

@@ -9,6 +9,7 @@ pub mod cases;
 pub mod document;
 pub mod program;
 pub mod random_runs;
+pub mod reference;
 pub mod registers;
 pub mod run;
 pub mod transfer;

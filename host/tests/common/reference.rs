@@ -3,7 +3,7 @@
 //! The tests compare the proved functions with these. Where possible they are
 //! computed in another way than the document's formulas.
 
-use crate::{BitOrder, Command, Error};
+use lpspi_host::{BitOrder, Command, Error};
 use std::iter;
 
 /// The byte sent where the write buffer has no more.
