@@ -8,10 +8,12 @@
 //! access: the register's offset, plus 0x1000 for a write, and the value. It
 //! must have room for the whole budget; places past the accesses made are kept.
 
+#[macro_use]
+mod ffi;
+
 mod calls;
 mod disabled;
 mod driver;
-mod ffi;
 pub mod raw;
 mod transfers;
 mod trial;
@@ -169,7 +171,18 @@ fn answer<T>(number: u32, value: T) -> Result<T, Error> {
 #[inline]
 pub fn command(command: &Command) -> Result<u32, Error> {
     let mut word = 0;
-    let number = raw::command(command, &mut word);
+    let number = raw::command(
+        command.frame_size,
+        command.byte_swap,
+        command.bit_order.is_lsb(),
+        command.receive_mask,
+        command.transmit_mask,
+        command.continuous,
+        command.continuing,
+        command.mode,
+        command.pcs,
+        &mut word,
+    );
     answer(number, word)
 }
 
@@ -185,7 +198,7 @@ pub fn clock(source_hz: u32, clock_hz: u32) -> Result<u32, Error> {
 #[inline]
 pub fn pack_u8(order: BitOrder, bytes: &[u8]) -> Result<u32, Error> {
     let mut word = 0;
-    let number = raw::pack_u8(order, bytes, &mut word);
+    let number = raw::pack_u8(order.is_lsb(), bytes, &mut word);
     answer(number, word)
 }
 
@@ -194,7 +207,7 @@ pub fn pack_u8(order: BitOrder, bytes: &[u8]) -> Result<u32, Error> {
 /// Bytes past the end are dropped. A refusal leaves `bytes` as found.
 #[inline]
 pub fn unpack_u8(order: BitOrder, word: u32, count: usize, bytes: &mut [u8]) -> Result<(), Error> {
-    answer(raw::unpack_u8(order, word, count, bytes), ())
+    answer(raw::unpack_u8(order.is_lsb(), word, count, bytes), ())
 }
 
 /// Puts the FIFO words of a transfer of `total` bytes at the front of `words`.
@@ -203,7 +216,7 @@ pub fn unpack_u8(order: BitOrder, word: u32, count: usize, bytes: &mut [u8]) -> 
 /// past the transfer's last word are kept.
 #[inline]
 pub fn pack_words_u8(order: BitOrder, bytes: &[u8], total: usize, words: &mut [u32]) {
-    raw::pack_words_u8(order, bytes, total, words);
+    raw::pack_words_u8(order.is_lsb(), bytes, total, words);
 }
 
 /// Puts the bytes of the received words of a transfer of `total` bytes at the
@@ -213,7 +226,7 @@ pub fn pack_words_u8(order: BitOrder, bytes: &[u8], total: usize, words: &mut [u
 /// are kept.
 #[inline]
 pub fn unpack_words_u8(order: BitOrder, words: &[u32], total: usize, bytes: &mut [u8]) {
-    raw::unpack_words_u8(order, words, total, bytes);
+    raw::unpack_words_u8(order.is_lsb(), words, total, bytes);
 }
 
 /// What the program `buslog` prints for its input: the listing of an exchange, or

@@ -1,13 +1,22 @@
 //! Transfers of buffers, and `flush`. They leave the driver as it was.
 
-use crate::{Driver, Run, ffi, raw};
+use crate::{Driver, Run, raw};
 
 /// An element of a buffer: 8, 16 or 32 bits.
-pub trait Element: ffi::Exported {}
+pub trait Element: Copy + sealed::Sealed {}
 
 impl Element for u8 {}
 impl Element for u16 {}
 impl Element for u32 {}
+
+/// There are no other elements: `raw` takes one for the integer of its size.
+mod sealed {
+    pub trait Sealed {}
+
+    impl Sealed for u8 {}
+    impl Sealed for u16 {}
+    impl Sealed for u32 {}
+}
 
 /// The transfer of that number.
 #[inline]

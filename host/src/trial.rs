@@ -88,11 +88,15 @@ pub struct Trial {
 pub fn trial<W: Element>(gate: Board<W>, antenna: Board<W>, events: &[u8]) -> Result<Trial, Error> {
     let mut states = [[0; END_STATE]; 2];
     let number = raw::trial(
-        [gate.driver.number(), antenna.driver.number()],
+        gate.driver.number(),
+        antenna.driver.number(),
         u32::from(gate.in_place) | u32::from(antenna.in_place) << 1,
-        [gate.exponent, antenna.exponent],
-        (gate.read, gate.write),
-        (antenna.read, antenna.write),
+        gate.exponent,
+        antenna.exponent,
+        gate.read,
+        gate.write,
+        antenna.read,
+        antenna.write,
         events,
         states.as_flattened_mut(),
     );

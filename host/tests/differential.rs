@@ -2,6 +2,7 @@
 
 mod common;
 
+use common::command::raw_command;
 use common::{Random, lengths, reference};
 use lpspi_host::{BitOrder, Command, Error, raw};
 
@@ -18,7 +19,7 @@ fn check_command(random: &mut Random, command: &Command) -> bool {
     let answer = reference::command(command);
     let found = random.word();
     let mut word = found;
-    let number = raw::command(command, &mut word);
+    let number = raw_command(command, &mut word);
     assert_eq!((number, word), expected(answer, found), "{command:?}");
     assert_eq!(lpspi_host::command(command), answer, "{command:?}");
     random.cases.count();
@@ -135,7 +136,7 @@ fn pack_one_word() {
                 let bytes = random.bytes(len);
                 let found = random.word();
                 let mut word = found;
-                let number = raw::pack_u8(order, &bytes, &mut word);
+                let number = raw::pack_u8(order.is_lsb(), &bytes, &mut word);
                 let answer = reference::pack_u8(order, &bytes);
                 let case = format!("{order:?} {bytes:02X?}");
                 assert_eq!((number, word), expected(answer, found), "{case}");

@@ -136,6 +136,8 @@ fn boards_that_make_no_pair_are_refused() {
 /// What the state holds before a trial. No word of a state is this.
 const FOUND: u32 = 0xDEAD_BEEF;
 
+const BOTH_IN_PLACE: u32 = 0b11;
+
 /// A trial in the C form, of a gate with three elements and an antenna with so many,
 /// the gate's all the first of two, the antenna's the second.
 /// Answers the number and the lent state, of so many words. At 9 the buffers must be as
@@ -154,11 +156,15 @@ fn left<W: Element + Copy + PartialEq + Debug>(
     let (mut gate, mut antenna) = ([ours; 3], vec![theirs; elements]);
     let mut state = vec![FOUND; room];
     let number = raw::trial(
-        orders.map(|order| driver(order).number()),
-        3,
-        exponents,
-        (&mut gate, &[]),
-        (&mut antenna, &[]),
+        driver(orders[0]).number(),
+        driver(orders[1]).number(),
+        BOTH_IN_PLACE,
+        exponents[0],
+        exponents[1],
+        &mut gate,
+        &[],
+        &mut antenna,
+        &[],
         &events(&"gac".repeat(20)),
         &mut state,
     );

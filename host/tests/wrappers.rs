@@ -1,5 +1,8 @@
 //! The scope document's examples, limits and refusals.
 
+mod common;
+
+use common::command::raw_command;
 use lpspi_host::BitOrder::{Lsb, Msb};
 use lpspi_host::{
     BitOrder, Command, Direction, Error, clock, command, pack_u8, pack_words_u8, raw, unpack_u8,
@@ -50,7 +53,7 @@ fn word_examples() {
 fn no_bytes_give_zero() {
     for order in BitOrder::ALL {
         let mut word = FOUND;
-        assert_eq!(raw::pack_u8(order, &[], &mut word), 0);
+        assert_eq!(raw::pack_u8(order.is_lsb(), &[], &mut word), 0);
         assert_eq!(word, 0);
     }
 }
@@ -115,12 +118,10 @@ fn more_than_four_bytes_are_refused() {
     for order in BitOrder::ALL {
         for len in [5, 6, 8, 100] {
             let mut word = FOUND;
-            assert_eq!(raw::pack_u8(order, &vec![0x5A; len], &mut word), 8);
+            let bytes = vec![0x5A; len];
+            assert_eq!(raw::pack_u8(order.is_lsb(), &bytes, &mut word), 8);
             assert_eq!(word, FOUND);
-            assert_eq!(
-                pack_u8(order, &vec![0x5A; len]),
-                Err(Error::TooManyElements)
-            );
+            assert_eq!(pack_u8(order, &bytes), Err(Error::TooManyElements));
         }
     }
 }
@@ -135,7 +136,8 @@ fn unpacking_more_than_four_is_refused() {
                 Err(Error::TooManyElements)
             );
             assert_eq!(bytes, [1, 2, 3, 4, 5, 6]);
-            assert_eq!(raw::unpack_u8(order, FOUND, count, &mut bytes), 8);
+            let number = raw::unpack_u8(order.is_lsb(), FOUND, count, &mut bytes);
+            assert_eq!(number, 8);
             assert_eq!(bytes, [1, 2, 3, 4, 5, 6]);
         }
     }
@@ -165,7 +167,7 @@ fn frame_size_limits() {
     // 4104 is 8 in its low 12 bits.
     for refused in [0, 1, 7, 33, 65, 4033, 4065, 4097, 4098, 4104, 65535] {
         let mut word = FOUND;
-        assert_eq!(raw::command(&sized(refused), &mut word), 1);
+        assert_eq!(raw_command(&sized(refused), &mut word), 1);
         assert_eq!(word, FOUND);
     }
 }
@@ -207,7 +209,7 @@ fn refused_frame_size_with_all_settings_keeps_the_word() {
         pcs: u32::MAX,
     };
     let mut word = FOUND;
-    assert_eq!(raw::command(&all, &mut word), 1);
+    assert_eq!(raw_command(&all, &mut word), 1);
     assert_eq!(word, FOUND);
     let accepted = Command {
         frame_size: 32,

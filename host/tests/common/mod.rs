@@ -6,6 +6,7 @@
 pub mod branches;
 pub mod buslog;
 pub mod cases;
+pub mod command;
 pub mod document;
 pub mod program;
 pub mod random_runs;

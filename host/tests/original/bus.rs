@@ -113,11 +113,15 @@ impl<W: Both> Left<W> {
         let mut buffers = [gate.read.clone(), antenna.read.clone()];
         let [gate_read, antenna_read] = &mut buffers;
         let number = raw::trial(
-            [gate, antenna].map(|board| driver(board.driver).number()),
+            driver(gate.driver).number(),
+            driver(antenna.driver).number(),
             u32::from(gate.in_place) | u32::from(antenna.in_place) << 1,
-            [gate.exponent, antenna.exponent],
-            (gate_read, &gate.write),
-            (antenna_read, &antenna.write),
+            gate.exponent,
+            antenna.exponent,
+            gate_read,
+            &gate.write,
+            antenna_read,
+            &antenna.write,
             events,
             &mut state,
         );
