@@ -1,17 +1,18 @@
 //! Resets, and calls without a value.
 
-use crate::{Direction, Driver, Run, raw};
+use crate::raw::{self, Reset, Set};
+use crate::{Direction, Driver, Run};
 
 /// Resets the peripheral and restores its settings, the clock from the cache.
 #[inline]
 pub fn soft_reset(driver: Driver, budget: usize, script: &[u32], log: &mut [u32]) -> Run {
-    reset(0, driver, budget, script, log)
+    reset(Reset::SoftReset, driver, budget, script, log)
 }
 
 /// A soft reset that also clears both error flags.
 #[inline]
 pub fn recover_from_error(driver: Driver, budget: usize, script: &[u32], log: &mut [u32]) -> Run {
-    reset(1, driver, budget, script, log)
+    reset(Reset::RecoverFromError, driver, budget, script, log)
 }
 
 /// Resets the peripheral and sets it up as a controller.
@@ -19,7 +20,7 @@ pub fn recover_from_error(driver: Driver, budget: usize, script: &[u32], log: &m
 /// The next driver value is the default, unless the limits are refused.
 #[inline]
 pub fn init(driver: Driver, budget: usize, script: &[u32], log: &mut [u32]) -> Run {
-    reset(2, driver, budget, script, log)
+    reset(Reset::Init, driver, budget, script, log)
 }
 
 /// Clears those of the status flags that are cleared by writing 1.
@@ -31,7 +32,7 @@ pub fn clear_status(
     script: &[u32],
     log: &mut [u32],
 ) -> Run {
-    set(0, flags, driver, budget, script, log)
+    set(Set::ClearStatus, flags, driver, budget, script, log)
 }
 
 /// Enables or disables the peripheral.
@@ -43,7 +44,7 @@ pub fn set_enable(
     script: &[u32],
     log: &mut [u32],
 ) -> Run {
-    set(1, enable.into(), driver, budget, script, log)
+    set(Set::SetEnable, enable.into(), driver, budget, script, log)
 }
 
 /// Empties the FIFO of that direction.
@@ -55,7 +56,8 @@ pub fn clear_fifo(
     script: &[u32],
     log: &mut [u32],
 ) -> Run {
-    set(2, direction as u32, driver, budget, script, log)
+    let a = direction as u32;
+    set(Set::ClearFifo, a, driver, budget, script, log)
 }
 
 /// Places a word into the transmit FIFO.
@@ -67,7 +69,7 @@ pub fn enqueue_data(
     script: &[u32],
     log: &mut [u32],
 ) -> Run {
-    set(3, word, driver, budget, script, log)
+    set(Set::EnqueueData, word, driver, budget, script, log)
 }
 
 /// Places a command of that frame size, with the driver's order, mode and chip
@@ -82,21 +84,23 @@ pub fn enqueue_transaction(
     script: &[u32],
     log: &mut [u32],
 ) -> Run {
-    set(4, frame_size, driver, budget, script, log)
+    let kind = Set::EnqueueTransaction;
+    set(kind, frame_size, driver, budget, script, log)
 }
 
-/// The reset of that number.
+/// A reset.
 #[inline]
-fn reset(kind: u32, driver: Driver, budget: usize, script: &[u32], log: &mut [u32]) -> Run {
+fn reset(kind: Reset, driver: Driver, budget: usize, script: &[u32], log: &mut [u32]) -> Run {
     Run::of(driver, |driver, accesses, answers| {
-        raw::reset(kind, driver, budget, script, log, accesses, answers)
+        raw::reset(kind as u32, driver, budget, script, log, accesses, answers)
     })
 }
 
-/// The call of that number, with its parameter.
+/// A call with its parameter.
 #[inline]
-fn set(kind: u32, a: u32, driver: Driver, budget: usize, script: &[u32], log: &mut [u32]) -> Run {
+fn set(kind: Set, a: u32, driver: Driver, budget: usize, script: &[u32], log: &mut [u32]) -> Run {
     Run::of(driver, |driver, accesses, answers| {
+        let kind = kind as u32;
         raw::set(kind, a, driver, budget, script, log, accesses, answers)
     })
 }

@@ -1,7 +1,8 @@
 //! Settings that are changed while the peripheral is disabled. Each call also
 //! disables it, and enables it again if it was.
 
-use crate::{Driver, Run, raw};
+use crate::raw::{self, Disabled};
+use crate::{Driver, Run};
 
 /// When an input bit is sampled.
 #[derive(Debug, Clone, Copy, PartialEq, Eq)]
@@ -32,7 +33,8 @@ pub fn set_clock_hz(
     script: &[u32],
     log: &mut [u32],
 ) -> Run {
-    disabled(0, [source_hz, clock_hz], driver, budget, script, log)
+    let clocks = [source_hz, clock_hz];
+    disabled(Disabled::SetClockHz, clocks, driver, budget, script, log)
 }
 
 /// Sets the clock to a CCR word, as [`clock`](crate::clock) gives; the cache
@@ -45,7 +47,8 @@ pub fn set_clock_configs(
     script: &[u32],
     log: &mut [u32],
 ) -> Run {
-    disabled(1, [word, 0], driver, budget, script, log)
+    let kind = Disabled::SetClockConfigs;
+    disabled(kind, [word, 0], driver, budget, script, log)
 }
 
 /// Sets when input bits are sampled.
@@ -57,7 +60,8 @@ pub fn set_sample_point(
     script: &[u32],
     log: &mut [u32],
 ) -> Run {
-    disabled(2, [point as u32, 0], driver, budget, script, log)
+    let kind = Disabled::SetSamplePoint;
+    disabled(kind, [point as u32, 0], driver, budget, script, log)
 }
 
 /// Becomes a peripheral, or a controller again.
@@ -69,7 +73,8 @@ pub fn set_peripheral_enable(
     script: &[u32],
     log: &mut [u32],
 ) -> Run {
-    disabled(3, [enable.into(), 0], driver, budget, script, log)
+    let kind = Disabled::SetPeripheralEnable;
+    disabled(kind, [enable.into(), 0], driver, budget, script, log)
 }
 
 /// Sets the polarity of a chip select, whose number is taken modulo 4.
@@ -82,13 +87,14 @@ pub fn set_chip_select_polarity(
     script: &[u32],
     log: &mut [u32],
 ) -> Run {
-    disabled(4, [pcs, polarity as u32], driver, budget, script, log)
+    let kind = Disabled::SetChipSelectPolarity;
+    disabled(kind, [pcs, polarity as u32], driver, budget, script, log)
 }
 
-/// The call of that number, with its parameters.
+/// A call with its parameters.
 #[inline]
 fn disabled(
-    kind: u32,
+    kind: Disabled,
     [a, b]: [u32; 2],
     driver: Driver,
     budget: usize,
@@ -96,6 +102,7 @@ fn disabled(
     log: &mut [u32],
 ) -> Run {
     Run::of(driver, |driver, accesses, answers| {
+        let kind = kind as u32;
         raw::disabled(kind, a, b, driver, budget, script, log, accesses, answers)
     })
 }

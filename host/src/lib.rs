@@ -28,6 +28,7 @@ pub use disabled::{
     set_peripheral_enable, set_sample_point,
 };
 pub use driver::{Driver, Run};
+pub use raw::Event;
 pub use transfers::{Element, exchange, exchange_separate, flush, read_no_write, write_no_read};
 pub use trial::{Board, EndState, Trial, trial};
 pub use values::{

@@ -8,9 +8,14 @@
 //!
 //! A run takes the driver as a number, see [`Driver::number`](crate::Driver::number), and always
 //! gives the next driver value, its accesses and answers, and its value if it has one. `kind` says
-//! which call it is, modulo the number of calls; `a` and `b` are the call's parameters. Of a
-//! parameter with two values even is the first, odd the second.
+//! which call it is, by the enum of the function's name and modulo the number of calls; `a` and `b`
+//! are the call's parameters, see there. Of a parameter with two values even is the first, odd the
+//! second.
 #![allow(clippy::too_many_arguments, unsafe_code)]
+
+mod kinds;
+
+pub use kinds::{Disabled, Event, Get, Reset, Set, Transfer};
 
 use crate::Element;
 
@@ -72,7 +77,7 @@ c_functions! {
         answers: &mut usize,
     ) -> u32;
 
-    /// 0 `soft_reset`, 1 `recover_from_error`, 2 `init`.
+    /// A [`Reset`].
     fn reset = lpspi_reset(
         kind: u32,
         driver: &mut u32,
@@ -83,8 +88,7 @@ c_functions! {
         answers: &mut usize,
     ) -> u32;
 
-    /// 0 `clear_status`, 1 `set_enable`, 2 `clear_fifo`, 3 `enqueue_data`,
-    /// 4 `enqueue_transaction`.
+    /// A [`Set`].
     fn set = lpspi_set(
         kind: u32,
         a: u32,
@@ -96,8 +100,7 @@ c_functions! {
         answers: &mut usize,
     ) -> u32;
 
-    /// 0 `set_clock_hz`, 1 `set_clock_configs`, 2 `set_sample_point`,
-    /// 3 `set_peripheral_enable`, 4 `set_chip_select_polarity`.
+    /// A setting that is changed while [`Disabled`].
     fn disabled = lpspi_disabled(
         kind: u32,
         a: u32,
@@ -110,8 +113,7 @@ c_functions! {
         answers: &mut usize,
     ) -> u32;
 
-    /// 0 `watermark`, 1 `set_watermark`, 2 `status`, 3 `is_enabled`,
-    /// 4 `fifo_status`, 5 `read_data`. The value is 0 with a number other than 0.
+    /// A [`Get`]. The value is 0 with a number other than 0.
     fn get = lpspi_get(
         kind: u32,
         a: u32,
@@ -131,8 +133,7 @@ c_functions! {
 }
 
 c_functions_by_width! {
-    /// A transfer: 0 `exchange_separate`, 1 `exchange` of `read`, 2 `write_no_read`
-    /// of `write`, 3 `read_no_write` of `read`.
+    /// A [`Transfer`].
     fn transfer = [
         lpspi_transfer_u8 of u8,
         lpspi_transfer_u16 of u16,
@@ -149,7 +150,7 @@ c_functions_by_width! {
         answers: &mut usize,
     ) -> u32;
 
-    /// Lets events happen to a gate and an antenna: each byte is an event, modulo 9.
+    /// Lets events happen to a gate and an antenna: each byte is an [`Event`], modulo 9.
     /// `inplace` has a bit for each end, the gate's lowest. The ends' states go to the front
     /// of `state`, [`END_STATE`] words each, the gate's first; what has no room is dropped.
     ///

@@ -1,6 +1,7 @@
 //! Transfers of buffers, and `flush`. They leave the driver as it was.
 
-use crate::{Driver, Run, raw};
+use crate::raw::{self, Transfer};
+use crate::{Driver, Run};
 
 /// An element of a buffer: 8, 16 or 32 bits.
 pub trait Element: Copy + sealed::Sealed {}
@@ -18,10 +19,10 @@ mod sealed {
     impl Sealed for u32 {}
 }
 
-/// The transfer of that number.
+/// A transfer.
 #[inline]
 fn transfer<W: Element>(
-    kind: u32,
+    kind: Transfer,
     driver: Driver,
     (read, write): (&mut [W], &[W]),
     budget: usize,
@@ -29,6 +30,7 @@ fn transfer<W: Element>(
     log: &mut [u32],
 ) -> Run {
     Run::of(driver, |driver, accesses, answers| {
+        let kind = kind as u32;
         raw::transfer(
             kind, driver, read, write, budget, script, log, accesses, answers,
         )
@@ -48,7 +50,8 @@ pub fn exchange_separate<W: Element>(
     script: &[u32],
     log: &mut [u32],
 ) -> Run {
-    transfer(0, driver, (read, write), budget, script, log)
+    let kind = Transfer::ExchangeSeparate;
+    transfer(kind, driver, (read, write), budget, script, log)
 }
 
 /// Sends `data` and receives into it.
@@ -62,7 +65,8 @@ pub fn exchange<W: Element>(
     script: &[u32],
     log: &mut [u32],
 ) -> Run {
-    transfer(1, driver, (data, &[]), budget, script, log)
+    let kind = Transfer::Exchange;
+    transfer(kind, driver, (data, &[]), budget, script, log)
 }
 
 /// Sends `data` and receives nothing.
@@ -74,7 +78,8 @@ pub fn write_no_read<W: Element>(
     script: &[u32],
     log: &mut [u32],
 ) -> Run {
-    transfer(2, driver, (&mut [], data), budget, script, log)
+    let kind = Transfer::WriteNoRead;
+    transfer(kind, driver, (&mut [], data), budget, script, log)
 }
 
 /// Receives into `data` and sends nothing.
@@ -86,7 +91,8 @@ pub fn read_no_write<W: Element>(
     script: &[u32],
     log: &mut [u32],
 ) -> Run {
-    transfer(3, driver, (data, &[]), budget, script, log)
+    let kind = Transfer::ReadNoWrite;
+    transfer(kind, driver, (data, &[]), budget, script, log)
 }
 
 /// Waits until all has been sent.

@@ -1,6 +1,6 @@
 //! Trials: two boards on one bus, and a list of events.
 
-use crate::raw::{self, END_STATE};
+use crate::raw::{self, END_STATE, Event};
 use crate::{Driver, Element, Error, answer};
 
 /// What an end of the bus starts with.
@@ -79,13 +79,15 @@ pub struct Trial {
 
 /// Lets the events happen to a gate and an antenna, both fresh.
 ///
-/// Each byte is an event, modulo 9: a step of the gate without and with the busy bit,
-/// the same of the antenna, a clock, noise at the gate that sets T and R, the same at
-/// the antenna. Elements not received are kept.
+/// Elements not received are kept.
 ///
 /// Boards that make no pair are refused with [`Error::Unpaired`]: there are no ends
 /// then, and the read buffers are as found.
-pub fn trial<W: Element>(gate: Board<W>, antenna: Board<W>, events: &[u8]) -> Result<Trial, Error> {
+pub fn trial<W: Element>(
+    gate: Board<W>,
+    antenna: Board<W>,
+    events: &[Event],
+) -> Result<Trial, Error> {
     let mut states = [[0; END_STATE]; 2];
     let number = raw::trial(
         gate.driver.number(),
@@ -97,7 +99,7 @@ pub fn trial<W: Element>(gate: Board<W>, antenna: Board<W>, events: &[u8]) -> Re
         gate.write,
         antenna.read,
         antenna.write,
-        events,
+        Event::numbers(events),
         states.as_flattened_mut(),
     );
     let [gate, antenna] = states.map(EndState);

@@ -1,7 +1,8 @@
 //! Calls with a value: it stands beside the run, and is 0, false or none unless
 //! the run is Ok.
 
-use crate::{Direction, Driver, Run, raw};
+use crate::raw::{self, Get};
+use crate::{Direction, Driver, Run};
 
 /// The number of words in each FIFO, and its capacity as the driver takes it.
 #[derive(Debug, Clone, Copy, PartialEq, Eq, Default)]
@@ -25,7 +26,8 @@ pub fn watermark(
     script: &[u32],
     log: &mut [u32],
 ) -> (Run, u8) {
-    let (run, level) = get(0, [direction as u32, 0], driver, budget, script, log);
+    let parameters = [direction as u32, 0];
+    let (run, level) = get(Get::Watermark, parameters, driver, budget, script, log);
     (run, level as u8)
 }
 
@@ -41,21 +43,21 @@ pub fn set_watermark(
     log: &mut [u32],
 ) -> (Run, u8) {
     let parameters = [direction as u32, level.into()];
-    let (run, level) = get(1, parameters, driver, budget, script, log);
+    let (run, level) = get(Get::SetWatermark, parameters, driver, budget, script, log);
     (run, level as u8)
 }
 
 /// The status flags that have a name.
 #[inline]
 pub fn status(driver: Driver, budget: usize, script: &[u32], log: &mut [u32]) -> (Run, u32) {
-    let (run, flags) = get(2, [0; 2], driver, budget, script, log);
+    let (run, flags) = get(Get::Status, [0; 2], driver, budget, script, log);
     (run, flags as u32)
 }
 
 /// Whether the peripheral is enabled.
 #[inline]
 pub fn is_enabled(driver: Driver, budget: usize, script: &[u32], log: &mut [u32]) -> (Run, bool) {
-    let (run, enabled) = get(3, [0; 2], driver, budget, script, log);
+    let (run, enabled) = get(Get::IsEnabled, [0; 2], driver, budget, script, log);
     (run, enabled != 0)
 }
 
@@ -67,7 +69,7 @@ pub fn fifo_status(
     script: &[u32],
     log: &mut [u32],
 ) -> (Run, FifoStatus) {
-    let (run, fields) = get(4, [0; 2], driver, budget, script, log);
+    let (run, fields) = get(Get::FifoStatus, [0; 2], driver, budget, script, log);
     let status = FifoStatus {
         rxcount: fields as u16,
         txcount: (fields >> 16) as u16,
@@ -85,14 +87,14 @@ pub fn read_data(
     script: &[u32],
     log: &mut [u32],
 ) -> (Run, Option<u32>) {
-    let (run, data) = get(5, [0; 2], driver, budget, script, log);
+    let (run, data) = get(Get::ReadData, [0; 2], driver, budget, script, log);
     (run, (data >> 32 != 0).then_some(data as u32))
 }
 
-/// The call of that number, with its parameters.
+/// A call with its parameters, and its value as a number.
 #[inline]
 fn get(
-    kind: u32,
+    kind: Get,
     [a, b]: [u32; 2],
     driver: Driver,
     budget: usize,
@@ -101,6 +103,7 @@ fn get(
 ) -> (Run, u64) {
     let mut value = 0;
     let run = Run::of(driver, |driver, accesses, answers| {
+        let kind = kind as u32;
         raw::get(
             kind, a, b, driver, budget, script, log, accesses, answers, &mut value,
         )

@@ -1,6 +1,11 @@
 //! Calls by example. The accesses expected of resets, settings and values are those
 //! of a model that was written from the original and the scope document alone.
 
+mod common;
+
+use common::function::Function;
+use common::run::Limits;
+use lpspi_host::raw::Get;
 use lpspi_host::*;
 
 /// What a log holds before a run, in each place.
@@ -261,32 +266,23 @@ fn watermarks() {
 /// Whatever stood there before, and also with a number other than 0.
 #[test]
 fn a_value_is_always_written() {
-    let log = &mut [FOUND; 80];
-    let script = [u32::MAX; 2];
     for (kind, budget, number, expected) in [
-        (2, 20, 0, 0x0100_3F03),
-        (2, 0, 4, 0),
-        (2, 41, 5, 0),
-        (1, 20, 7, 0),
-        (4, 20, 0, 0x00FF_00FF_001F_001F),
-        (5, 20, 0, 0),
+        (Get::Status, 20, 0, 0x0100_3F03),
+        (Get::Status, 0, 4, 0),
+        (Get::Status, 41, 5, 0),
+        (Get::SetWatermark, 20, 7, 0),
+        (Get::FifoStatus, 20, 0, 0x00FF_00FF_001F_001F),
+        (Get::ReadData, 20, 0, 0),
     ] {
-        let (mut driver, mut accesses, mut answers, mut value) = (DRIVER.number(), 7, 7, 7);
-        let given = raw::get(
-            kind,
-            0,
-            0,
-            &mut driver,
+        let limits = Limits {
             budget,
-            &script,
-            log,
-            &mut accesses,
-            &mut answers,
-            &mut value,
-        );
-        assert_eq!((given, value), (number, expected), "kind {kind}");
-        assert!(accesses < 3 && answers < 3, "kind {kind}");
-        assert_eq!(driver, DRIVER.number(), "kind {kind}");
+            log_len: 80,
+            script: vec![u32::MAX; 2],
+        };
+        let left = Function::Get(kind).port([0; 2], DRIVER.number(), &limits);
+        assert_eq!((left.number, left.value), (number, expected), "{kind:?}");
+        assert!(left.accesses < 3 && left.answers < 3, "{kind:?}");
+        assert_eq!(left.driver, DRIVER.number(), "{kind:?}");
     }
 }
 

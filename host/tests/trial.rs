@@ -1,13 +1,15 @@
 //! Trials of two boards on one bus: what the ends show, and what a refusal leaves.
 
 use lpspi_host::raw::{self, END_STATE};
-use lpspi_host::{BitOrder, Board, Direction, Driver, Element, EndState, Error, Trial, trial};
+use lpspi_host::{
+    BitOrder, Board, Direction, Driver, Element, EndState, Error, Event, Trial, trial,
+};
 use std::fmt::Debug;
 
 /// Events by the letters of the program `trial`.
-fn events(letters: &str) -> Vec<u8> {
-    let number = |letter| "gGaActrTR".find(letter).expect("an event") as u8;
-    letters.chars().map(number).collect()
+fn events(letters: &str) -> Vec<Event> {
+    let event = |letter| Event::ALL["gGaActrTR".find(letter).expect("an event")];
+    letters.chars().map(event).collect()
 }
 
 /// Boards with a buffer to read into and one to send.
@@ -149,15 +151,15 @@ fn left<W: Element + Copy + PartialEq + Debug>(
     elements: usize,
     room: usize,
 ) -> (u32, Vec<u32>) {
-    let driver = |bit_order| Driver {
+    let [gate_driver, antenna_driver] = orders.map(|bit_order| Driver {
         bit_order,
         ..Driver::default()
-    };
+    });
     let (mut gate, mut antenna) = ([ours; 3], vec![theirs; elements]);
     let mut state = vec![FOUND; room];
     let number = raw::trial(
-        driver(orders[0]).number(),
-        driver(orders[1]).number(),
+        gate_driver.number(),
+        antenna_driver.number(),
         BOTH_IN_PLACE,
         exponents[0],
         exponents[1],
@@ -165,7 +167,7 @@ fn left<W: Element + Copy + PartialEq + Debug>(
         &[],
         &mut antenna,
         &[],
-        &events(&"gac".repeat(20)),
+        Event::numbers(&events(&"gac".repeat(20))),
         &mut state,
     );
     if number == 9 {

@@ -8,6 +8,7 @@ pub mod buslog;
 pub mod cases;
 pub mod command;
 pub mod document;
+pub mod function;
 pub mod program;
 pub mod random_runs;
 pub mod reference;

@@ -142,8 +142,8 @@ pub fn transfers<W: Element>(
         };
         let (read, write) = (length(), length());
         let lengths = match kind {
-            Kind::Separate if random.chance(4) => (0, 0),
-            Kind::Separate => (read, write),
+            Kind::ExchangeSeparate if random.chance(4) => (0, 0),
+            Kind::ExchangeSeparate => (read, write),
             _ => (read, 0),
         };
         let driver = random_driver(random);

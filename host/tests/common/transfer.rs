@@ -1,6 +1,7 @@
 //! Transfers of the port, and flushes.
 
 use super::run::{Left, Limits, found};
+pub use lpspi_host::raw::Transfer as Kind;
 use lpspi_host::{Driver, exchange, exchange_separate, flush, read_no_write, write_no_read};
 use std::fmt::Debug;
 
@@ -28,34 +29,32 @@ impl Element for u32 {
     }
 }
 
-/// Which transfer: `exchange_separate`, `exchange`, `write_no_read`, `read_no_write`.
-#[derive(Debug, Clone, Copy, PartialEq, Eq)]
-pub enum Kind {
-    Separate,
-    InPlace,
-    Write,
-    Read,
-}
+/// What takes part in a transfer.
+pub trait Sides {
+    fn sends(self) -> bool;
 
-impl Kind {
-    pub const ALL: [Self; 4] = [Self::Separate, Self::InPlace, Self::Write, Self::Read];
-
-    pub fn sends(self) -> bool {
-        self != Self::Read
-    }
-
-    pub fn receives(self) -> bool {
-        self != Self::Write
-    }
+    fn receives(self) -> bool;
 
     /// Sides that take part: one or two.
-    pub fn sides(self) -> usize {
+    fn sides(self) -> usize;
+}
+
+impl Sides for Kind {
+    fn sends(self) -> bool {
+        self != Self::ReadNoWrite
+    }
+
+    fn receives(self) -> bool {
+        self != Self::WriteNoRead
+    }
+
+    fn sides(self) -> usize {
         usize::from(self.sends()) + usize::from(self.receives())
     }
 }
 
-/// A transfer. `write` has the buffer of [`Kind::Write`], `read` that of
-/// [`Kind::InPlace`] and [`Kind::Read`].
+/// A transfer. `write` has the buffer of [`Kind::WriteNoRead`], `read` that of
+/// [`Kind::Exchange`] and [`Kind::ReadNoWrite`].
 #[derive(Debug)]
 pub struct Transfer<W> {
     pub kind: Kind,
@@ -81,9 +80,9 @@ impl<W: Element> Transfer<W> {
     ) -> Self {
         let longer = read.max(write);
         let (read, write) = match kind {
-            Kind::Separate => (read, write),
-            Kind::Write => (0, longer),
-            Kind::InPlace | Kind::Read => (longer, 0),
+            Kind::ExchangeSeparate => (read, write),
+            Kind::WriteNoRead => (0, longer),
+            Kind::Exchange | Kind::ReadNoWrite => (longer, 0),
         };
         let mut buffer = |len| (0..len).map(|_| W::of(word())).collect();
         Self {
@@ -119,10 +118,10 @@ impl<W: Element> Transfer<W> {
         let (mut read, mut log) = (self.read.clone(), found(limits.log_len));
         let (r, l) = (&mut read[..], &mut log[..]);
         let run = match self.kind {
-            Kind::Separate => exchange_separate(driver, r, write, budget, script, l),
-            Kind::InPlace => exchange(driver, r, budget, script, l),
-            Kind::Write => write_no_read(driver, write, budget, script, l),
-            Kind::Read => read_no_write(driver, r, budget, script, l),
+            Kind::ExchangeSeparate => exchange_separate(driver, r, write, budget, script, l),
+            Kind::Exchange => exchange(driver, r, budget, script, l),
+            Kind::WriteNoRead => write_no_read(driver, write, budget, script, l),
+            Kind::ReadNoWrite => read_no_write(driver, r, budget, script, l),
         };
         Left::new(run, read, log)
     }

@@ -43,7 +43,7 @@ fn inputs<W: Element + UpperHex>(test: &'static str) {
 
 /// The branches of an exchange. 512 bytes are a frame: number 1 takes wider elements.
 fn branches<W: Element>() -> impl Iterator<Item = Branch> {
-    let all = Branch::all::<W>(Kind::Separate).into_iter();
+    let all = Branch::all::<W>(Kind::ExchangeSeparate).into_iter();
     all.filter(|branch| size_of::<W>() > 1 || *branch != Branch::Ended(1))
 }
 

@@ -47,7 +47,8 @@ impl<W: Element + UpperHex> Exchange<W> {
             bit_order: random.order(),
             ..Driver::default()
         };
-        let mut transfer = Transfer::new(Kind::Separate, driver, lengths, || random.word());
+        let kind = Kind::ExchangeSeparate;
+        let mut transfer = Transfer::new(kind, driver, lengths, || random.word());
         transfer.read.fill(W::of(0));
         let limits = random_limits(random, transfer.words(), |limits| transfer.port(limits));
         let answers = match random.chance(4) {

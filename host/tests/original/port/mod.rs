@@ -102,10 +102,10 @@ fn judged_transfer<W: Element>(transfer: &Transfer<W>, limits: &Limits) -> Left<
     let (mut buffer, write) = (transfer.read.clone(), &transfer.write[..]);
     let read = &mut buffer[..];
     let call = W::call(match transfer.kind {
-        Kind::Separate => original::Transfer::ExchangeSeparate { read, write },
-        Kind::InPlace => original::Transfer::Exchange(read),
-        Kind::Write => original::Transfer::WriteNoRead(write),
-        Kind::Read => original::Transfer::ReadNoWrite(read),
+        Kind::ExchangeSeparate => original::Transfer::ExchangeSeparate { read, write },
+        Kind::Exchange => original::Transfer::Exchange(read),
+        Kind::WriteNoRead => original::Transfer::WriteNoRead(write),
+        Kind::ReadNoWrite => original::Transfer::ReadNoWrite(read),
     });
     let left = judged(call, transfer.driver, limits);
     Left { buffer, ..left }

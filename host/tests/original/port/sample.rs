@@ -137,10 +137,10 @@ fn transfer<W: Element + UpperHex>(random: &mut Random, kind: Kind, first: bool)
     let limits = random_limits(random, 60, |limits| judged_transfer(&transfer, limits));
     let left = judged_transfer(&transfer, &limits);
     let name = match kind {
-        Kind::Separate => "exchange_separate",
-        Kind::InPlace => "exchange",
-        Kind::Write => "write_no_read",
-        Kind::Read => "read_no_write",
+        Kind::ExchangeSeparate => "exchange_separate",
+        Kind::Exchange => "exchange",
+        Kind::WriteNoRead => "write_no_read",
+        Kind::ReadNoWrite => "read_no_write",
     };
     let call = format!("{name}_u{}", 8 * size_of::<W>());
     let buffers = (&transfer.read[..], &transfer.write[..]);
