@@ -1,17 +1,17 @@
 //! Resets, and calls without a value.
 
 use crate::raw::{self, Reset, Set};
-use crate::{Direction, Driver, Run};
+use crate::{Direction, Lpspi, Run, Status};
 
 /// Resets the peripheral and restores its settings, the clock from the cache.
 #[inline]
-pub fn soft_reset(driver: Driver, budget: usize, script: &[u32], log: &mut [u32]) -> Run {
+pub fn soft_reset(driver: Lpspi, budget: usize, script: &[u32], log: &mut [u32]) -> Run {
     reset(Reset::SoftReset, driver, budget, script, log)
 }
 
 /// A soft reset that also clears both error flags.
 #[inline]
-pub fn recover_from_error(driver: Driver, budget: usize, script: &[u32], log: &mut [u32]) -> Run {
+pub fn recover_from_error(driver: Lpspi, budget: usize, script: &[u32], log: &mut [u32]) -> Run {
     reset(Reset::RecoverFromError, driver, budget, script, log)
 }
 
@@ -19,26 +19,26 @@ pub fn recover_from_error(driver: Driver, budget: usize, script: &[u32], log: &m
 ///
 /// The next driver value is the default, unless the limits are refused.
 #[inline]
-pub fn init(driver: Driver, budget: usize, script: &[u32], log: &mut [u32]) -> Run {
+pub fn init(driver: Lpspi, budget: usize, script: &[u32], log: &mut [u32]) -> Run {
     reset(Reset::Init, driver, budget, script, log)
 }
 
 /// Clears those of the status flags that are cleared by writing 1.
 #[inline]
 pub fn clear_status(
-    driver: Driver,
-    flags: u32,
+    driver: Lpspi,
+    flags: Status,
     budget: usize,
     script: &[u32],
     log: &mut [u32],
 ) -> Run {
-    set(Set::ClearStatus, flags, driver, budget, script, log)
+    set(Set::ClearStatus, flags.bits(), driver, budget, script, log)
 }
 
 /// Enables or disables the peripheral.
 #[inline]
 pub fn set_enable(
-    driver: Driver,
+    driver: Lpspi,
     enable: bool,
     budget: usize,
     script: &[u32],
@@ -50,7 +50,7 @@ pub fn set_enable(
 /// Empties the FIFO of that direction.
 #[inline]
 pub fn clear_fifo(
-    driver: Driver,
+    driver: Lpspi,
     direction: Direction,
     budget: usize,
     script: &[u32],
@@ -63,7 +63,7 @@ pub fn clear_fifo(
 /// Places a word into the transmit FIFO.
 #[inline]
 pub fn enqueue_data(
-    driver: Driver,
+    driver: Lpspi,
     word: u32,
     budget: usize,
     script: &[u32],
@@ -78,7 +78,7 @@ pub fn enqueue_data(
 /// The limits are checked first, then the frame size.
 #[inline]
 pub fn enqueue_transaction(
-    driver: Driver,
+    driver: Lpspi,
     frame_size: u32,
     budget: usize,
     script: &[u32],
@@ -90,7 +90,7 @@ pub fn enqueue_transaction(
 
 /// A reset.
 #[inline]
-fn reset(kind: Reset, driver: Driver, budget: usize, script: &[u32], log: &mut [u32]) -> Run {
+fn reset(kind: Reset, driver: Lpspi, budget: usize, script: &[u32], log: &mut [u32]) -> Run {
     Run::of(driver, |driver, accesses, answers| {
         raw::reset(kind as u32, driver, budget, script, log, accesses, answers)
     })
@@ -98,7 +98,7 @@ fn reset(kind: Reset, driver: Driver, budget: usize, script: &[u32], log: &mut [
 
 /// A call with its parameter.
 #[inline]
-fn set(kind: Set, a: u32, driver: Driver, budget: usize, script: &[u32], log: &mut [u32]) -> Run {
+fn set(kind: Set, a: u32, driver: Lpspi, budget: usize, script: &[u32], log: &mut [u32]) -> Run {
     Run::of(driver, |driver, accesses, answers| {
         let kind = kind as u32;
         raw::set(kind, a, driver, budget, script, log, accesses, answers)

@@ -6,7 +6,7 @@
 //! The result is a number, 0 for Ok, else that of an [`Error`](crate::Error). Where a command, a
 //! clock, a word or a pair of boards is refused, all that was lent is as found.
 //!
-//! A run takes the driver as a number, see [`Driver::number`](crate::Driver::number), and always
+//! A run takes the driver as a number, see [`Lpspi::number`](crate::Lpspi::number), and always
 //! gives the next driver value, its accesses and answers, and its value if it has one. `kind` says
 //! which call it is, by the enum of the function's name and modulo the number of calls; `a` and `b`
 //! are the call's parameters, see there. Of a parameter with two values even is the first, odd the

@@ -1,7 +1,7 @@
 //! Transfers of buffers, and `flush`. They leave the driver as it was.
 
 use crate::raw::{self, Transfer};
-use crate::{Driver, Run};
+use crate::{Lpspi, Run};
 
 /// An element of a buffer: 8, 16 or 32 bits.
 pub trait Element: Copy + sealed::Sealed {}
@@ -23,7 +23,7 @@ mod sealed {
 #[inline]
 fn transfer<W: Element>(
     kind: Transfer,
-    driver: Driver,
+    driver: Lpspi,
     (read, write): (&mut [W], &[W]),
     budget: usize,
     script: &[u32],
@@ -43,7 +43,7 @@ fn transfer<W: Element>(
 /// `read` are dropped. Elements not received are kept.
 #[inline]
 pub fn exchange_separate<W: Element>(
-    driver: Driver,
+    driver: Lpspi,
     read: &mut [W],
     write: &[W],
     budget: usize,
@@ -59,7 +59,7 @@ pub fn exchange_separate<W: Element>(
 /// An element already received over is sent as received.
 #[inline]
 pub fn exchange<W: Element>(
-    driver: Driver,
+    driver: Lpspi,
     data: &mut [W],
     budget: usize,
     script: &[u32],
@@ -72,7 +72,7 @@ pub fn exchange<W: Element>(
 /// Sends `data` and receives nothing.
 #[inline]
 pub fn write_no_read<W: Element>(
-    driver: Driver,
+    driver: Lpspi,
     data: &[W],
     budget: usize,
     script: &[u32],
@@ -85,7 +85,7 @@ pub fn write_no_read<W: Element>(
 /// Receives into `data` and sends nothing.
 #[inline]
 pub fn read_no_write<W: Element>(
-    driver: Driver,
+    driver: Lpspi,
     data: &mut [W],
     budget: usize,
     script: &[u32],
@@ -97,7 +97,7 @@ pub fn read_no_write<W: Element>(
 
 /// Waits until all has been sent.
 #[inline]
-pub fn flush(driver: Driver, budget: usize, script: &[u32], log: &mut [u32]) -> Run {
+pub fn flush(driver: Lpspi, budget: usize, script: &[u32], log: &mut [u32]) -> Run {
     Run::of(driver, |driver, accesses, answers| {
         raw::flush(driver, budget, script, log, accesses, answers)
     })

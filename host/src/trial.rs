@@ -1,13 +1,14 @@
 //! Trials: two boards on one bus, and a list of events.
 
+use crate::error::{Error, answer};
 use crate::raw::{self, END_STATE, Event};
-use crate::{Driver, Element, Error, answer};
+use crate::{Element, Lpspi};
 
 /// What an end of the bus starts with.
 #[derive(Debug)]
 pub struct Board<'a, W> {
     /// The driver's value.
-    pub driver: Driver,
+    pub driver: Lpspi,
     /// Whether `read` is sent as well. `write` does not count then.
     pub in_place: bool,
     /// Both FIFOs have room for so many words as a power of 2, at most 4.

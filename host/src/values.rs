@@ -2,7 +2,7 @@
 //! the run is Ok.
 
 use crate::raw::{self, Get};
-use crate::{Direction, Driver, Run};
+use crate::{Direction, Lpspi, Run, Status};
 
 /// The number of words in each FIFO, and its capacity as the driver takes it.
 #[derive(Debug, Clone, Copy, PartialEq, Eq, Default)]
@@ -20,7 +20,7 @@ pub struct FifoStatus {
 /// The watermark of that direction.
 #[inline]
 pub fn watermark(
-    driver: Driver,
+    driver: Lpspi,
     direction: Direction,
     budget: usize,
     script: &[u32],
@@ -35,28 +35,28 @@ pub fn watermark(
 /// and answers the level set.
 #[inline]
 pub fn set_watermark(
-    driver: Driver,
+    driver: Lpspi,
     direction: Direction,
-    level: u8,
+    watermark: u8,
     budget: usize,
     script: &[u32],
     log: &mut [u32],
 ) -> (Run, u8) {
-    let parameters = [direction as u32, level.into()];
+    let parameters = [direction as u32, watermark.into()];
     let (run, level) = get(Get::SetWatermark, parameters, driver, budget, script, log);
     (run, level as u8)
 }
 
 /// The status flags that have a name.
 #[inline]
-pub fn status(driver: Driver, budget: usize, script: &[u32], log: &mut [u32]) -> (Run, u32) {
+pub fn status(driver: Lpspi, budget: usize, script: &[u32], log: &mut [u32]) -> (Run, Status) {
     let (run, flags) = get(Get::Status, [0; 2], driver, budget, script, log);
-    (run, flags as u32)
+    (run, Status::from_bits_retain(flags as u32))
 }
 
 /// Whether the peripheral is enabled.
 #[inline]
-pub fn is_enabled(driver: Driver, budget: usize, script: &[u32], log: &mut [u32]) -> (Run, bool) {
+pub fn is_enabled(driver: Lpspi, budget: usize, script: &[u32], log: &mut [u32]) -> (Run, bool) {
     let (run, enabled) = get(Get::IsEnabled, [0; 2], driver, budget, script, log);
     (run, enabled != 0)
 }
@@ -64,7 +64,7 @@ pub fn is_enabled(driver: Driver, budget: usize, script: &[u32], log: &mut [u32]
 /// The state of both FIFOs.
 #[inline]
 pub fn fifo_status(
-    driver: Driver,
+    driver: Lpspi,
     budget: usize,
     script: &[u32],
     log: &mut [u32],
@@ -82,7 +82,7 @@ pub fn fifo_status(
 /// A received word, unless the receive FIFO is empty.
 #[inline]
 pub fn read_data(
-    driver: Driver,
+    driver: Lpspi,
     budget: usize,
     script: &[u32],
     log: &mut [u32],
@@ -96,7 +96,7 @@ pub fn read_data(
 fn get(
     kind: Get,
     [a, b]: [u32; 2],
-    driver: Driver,
+    driver: Lpspi,
     budget: usize,
     script: &[u32],
     log: &mut [u32],

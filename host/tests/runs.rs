@@ -7,14 +7,14 @@ use common::buslog::{example_output, printed};
 use common::function::Function;
 use common::run::{EXAMPLE_SCRIPT, Left, Limits, found};
 use lpspi_host::raw::{self, Disabled, Get, Reset, Set, Transfer};
-use lpspi_host::{Driver, Element, Run, exchange_separate, flush};
+use lpspi_host::{Element, Lpspi, Run, exchange_separate, flush};
 use std::fmt::Debug;
 
 #[test]
 fn the_example() {
     let script = EXAMPLE_SCRIPT;
     let (mut read, mut log) = ([0u8], found(50));
-    let driver = Driver::default();
+    let driver = Lpspi::default();
     let run = exchange_separate(driver, &mut read, &[0xA5], 20, &script, &mut log);
     assert_eq!(log[24..], found(50)[24..]);
     assert_eq!(
@@ -43,9 +43,9 @@ fn ready_runs_make_4_and_8n_accesses() {
             result: Ok(()),
             accesses: 4 + 8 * n,
             answers: 3 + 7 * n,
-            driver: Driver::default(),
+            driver: Lpspi::default(),
         };
-        let (driver, budget) = (Driver::default(), 4 + 8 * n);
+        let (driver, budget) = (Lpspi::default(), 4 + 8 * n);
         let mut read = vec![0u32; n];
         let write = read.clone();
         let run = exchange_separate(driver, &mut read, &write, budget, &script, &mut log);
@@ -255,7 +255,7 @@ fn flush_sees_the_receive_error_first() {
         (&[0, 0], 4, 2),
     ];
     for (script, number, accesses) in cases {
-        let run = flush(Driver::default(), 10, script, &mut found(20));
+        let run = flush(Lpspi::default(), 10, script, &mut found(20));
         let given = (run.number(), run.accesses, run.answers);
         assert_eq!(given, (number, accesses, accesses), "{script:X?}");
     }

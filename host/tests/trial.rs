@@ -2,7 +2,7 @@
 
 use lpspi_host::raw::{self, END_STATE};
 use lpspi_host::{
-    BitOrder, Board, Direction, Driver, Element, EndState, Error, Event, Trial, trial,
+    BitOrder, Board, Direction, Element, EndState, Error, Event, Lpspi, LpspiError, Trial, trial,
 };
 use std::fmt::Debug;
 
@@ -15,7 +15,7 @@ fn events(letters: &str) -> Vec<Event> {
 /// Boards with a buffer to read into and one to send.
 fn separate<'a>(read: &'a mut [u8], write: &'a [u8], exponent: usize) -> Board<'a, u8> {
     Board {
-        driver: Driver::default(),
+        driver: Lpspi::default(),
         in_place: false,
         exponent,
         read,
@@ -94,7 +94,10 @@ fn one_says_so() {
     assert!(left.gate.ok_twice());
     let end = left.antenna;
     assert_eq!(end.transfer(), Some(Ok(())));
-    assert_eq!(end.flush(), Some(Err(Error::Fifo(Direction::Tx))));
+    assert_eq!(
+        end.flush(),
+        Some(Err(LpspiError::Fifo(Direction::Tx).into()))
+    );
     assert!(!end.ok_twice());
     assert_eq!([end.transmit_error(), end.receive_error()], [true, false]);
     assert_eq!(end.to_send(), [0x42]);
@@ -118,8 +121,14 @@ fn a_lost_word() {
     let end = trial(gate, antenna, &events(&happened))
         .expect("a pair")
         .antenna;
-    assert_eq!(end.transfer(), Some(Err(Error::Fifo(Direction::Tx))));
-    assert_eq!(end.flush(), Some(Err(Error::Fifo(Direction::Rx))));
+    assert_eq!(
+        end.transfer(),
+        Some(Err(LpspiError::Fifo(Direction::Tx).into()))
+    );
+    assert_eq!(
+        end.flush(),
+        Some(Err(LpspiError::Fifo(Direction::Rx).into()))
+    );
     assert_eq!([end.transmit_error(), end.receive_error()], [true; 2]);
     assert_eq!(end.to_send(), []);
     assert_eq!(end.to_read(), [0x6463_6261]);
@@ -151,9 +160,9 @@ fn left<W: Element + Copy + PartialEq + Debug>(
     elements: usize,
     room: usize,
 ) -> (u32, Vec<u32>) {
-    let [gate_driver, antenna_driver] = orders.map(|bit_order| Driver {
+    let [gate_driver, antenna_driver] = orders.map(|bit_order| Lpspi {
         bit_order,
-        ..Driver::default()
+        ..Lpspi::default()
     });
     let (mut gate, mut antenna) = ([ours; 3], vec![theirs; elements]);
     let mut state = vec![FOUND; room];

@@ -4,7 +4,7 @@ mod common;
 
 use common::Random;
 use common::document::shown;
-use lpspi_host::{BitOrder, Board, Driver, Element, Error, Event, trial};
+use lpspi_host::{BitOrder, Board, Element, Error, Event, Lpspi, trial};
 use std::fmt::LowerHex;
 
 /// The longest input that is taken.
@@ -171,9 +171,9 @@ impl Lines {
         let mut end = 0;
         let [gate, antenna] = reads.each_mut().map(|read| {
             let board = Board {
-                driver: Driver {
+                driver: Lpspi {
                     bit_order: orders[usize::from(self.lsb)],
-                    ..Driver::default()
+                    ..Lpspi::default()
                 },
                 in_place: self.in_place[end],
                 exponent: self.exponents[end],

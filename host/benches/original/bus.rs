@@ -1,7 +1,7 @@
 //! Trials of the port: lists of events on the bus.
 
 use crate::timing::wanted;
-use lpspi_host::{Board, Driver, Event, Trial, trial};
+use lpspi_host::{Board, Event, Lpspi, Trial, trial};
 use std::hint::black_box;
 use std::time::{Duration, Instant};
 
@@ -72,7 +72,7 @@ fn run(reads: &mut [Vec<u8>; 2], writes: &[Vec<u8>; 2], events: &[Event]) -> Tri
 
 fn board<'a>(read: &'a mut [u8], write: &'a [u8]) -> Board<'a, u8> {
     Board {
-        driver: Driver::default(),
+        driver: Lpspi::default(),
         in_place: false,
         exponent: EXPONENT,
         read,

@@ -3,7 +3,7 @@
 use crate::scripts;
 use crate::timing::{Effort, Times, wanted};
 use lpspi_host::raw::Transfer as Kind;
-use lpspi_host::{Driver, Run, exchange, exchange_separate, flush, read_no_write, write_no_read};
+use lpspi_host::{Lpspi, Run, exchange, exchange_separate, flush, read_no_write, write_no_read};
 use original::{Call, Outcome, Transfer};
 use std::cell::RefCell;
 use std::fmt::Debug;
@@ -122,7 +122,7 @@ where
         },
         &|buffer, script, log| {
             let write = black_box(elements);
-            let (driver, budget) = black_box((Driver::default(), BUDGET));
+            let (driver, budget) = black_box((Lpspi::default(), BUDGET));
             of_port(match black_box(kind) {
                 Kind::ExchangeSeparate => {
                     exchange_separate(driver, buffer, write, budget, script, log)
@@ -145,7 +145,7 @@ fn flushing(name: &str, script: &[u32]) {
             of_original(original::run(Call::Flush, driver, budget, script, log))
         },
         &|_, script, log| {
-            let (driver, budget) = black_box((Driver::default(), BUDGET));
+            let (driver, budget) = black_box((Lpspi::default(), BUDGET));
             of_port(flush(driver, budget, script, log))
         },
     );

@@ -18,7 +18,8 @@ pub mod transfer;
 pub mod walk;
 
 use cases::Cases;
-use lpspi_host::{BitOrder, Command};
+use command::Command;
+use lpspi_host::BitOrder;
 use std::sync::OnceLock;
 use std::time::{SystemTime, UNIX_EPOCH};
 

@@ -2,7 +2,7 @@
 
 use super::run::{Left, Limits, found};
 pub use lpspi_host::raw::Transfer as Kind;
-use lpspi_host::{Driver, exchange, exchange_separate, flush, read_no_write, write_no_read};
+use lpspi_host::{Lpspi, exchange, exchange_separate, flush, read_no_write, write_no_read};
 use std::fmt::Debug;
 
 /// An element of a buffer.
@@ -58,7 +58,7 @@ impl Sides for Kind {
 #[derive(Debug)]
 pub struct Transfer<W> {
     pub kind: Kind,
-    pub driver: Driver,
+    pub driver: Lpspi,
     pub read: Vec<W>,
     pub write: Vec<W>,
 }
@@ -74,7 +74,7 @@ impl<W: Element> Transfer<W> {
     /// greater. `word` gives the elements.
     pub fn new(
         kind: Kind,
-        driver: Driver,
+        driver: Lpspi,
         (read, write): (usize, usize),
         mut word: impl FnMut() -> u32,
     ) -> Self {
@@ -128,7 +128,7 @@ impl<W: Element> Transfer<W> {
 }
 
 /// What a flush of the port leaves.
-pub fn port_flush(driver: Driver, limits: &Limits) -> Left<u8> {
+pub fn port_flush(driver: Lpspi, limits: &Limits) -> Left<u8> {
     let mut log = found(limits.log_len);
     let run = flush(driver, limits.budget, &limits.script, &mut log);
     Left::new(run, vec![], log)

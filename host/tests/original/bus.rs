@@ -7,9 +7,10 @@ mod lists;
 use crate::common::Random;
 use crate::common::cases::Tally;
 use crate::common::transfer::{Element, Transfer};
+use crate::port::driver_number;
 use branches::{Branch, reached};
 use lists::{Chooser, Manner};
-use lpspi_host::{BitOrder, raw};
+use lpspi_host::raw;
 use original::Driver;
 use original::bus::{Board, Bus, Event, STATE, Side};
 use std::collections::BTreeSet;
@@ -113,8 +114,8 @@ impl<W: Both> Left<W> {
         let mut buffers = [gate.read.clone(), antenna.read.clone()];
         let [gate_read, antenna_read] = &mut buffers;
         let number = raw::trial(
-            driver(gate.driver).number(),
-            driver(antenna.driver).number(),
+            driver_number(gate.driver),
+            driver_number(antenna.driver),
             u32::from(gate.in_place) | u32::from(antenna.in_place) << 1,
             gate.exponent,
             antenna.exponent,
@@ -144,16 +145,6 @@ impl<W: Both> Left<W> {
             state,
             buffers: SIDES.map(|side| bus.buffer(side).to_vec()),
         }
-    }
-}
-
-fn driver(driver: Driver) -> lpspi_host::Driver {
-    lpspi_host::Driver {
-        bit_order: BitOrder::ALL[usize::from(driver.lsb)],
-        mode: driver.mode.into(),
-        pcs: driver.pcs.into(),
-        dbt: driver.dbt,
-        sckdiv: driver.sckdiv,
     }
 }
 

@@ -5,7 +5,7 @@ use crate::common::buslog::{MOST_ANSWERS, MOST_ELEMENTS, printed};
 use crate::common::random_runs::random_limits;
 use crate::common::run::{Left, Limits, MAX_BUDGET};
 use crate::common::transfer::{Element, Kind, Transfer};
-use lpspi_host::Driver;
+use lpspi_host::Lpspi;
 use std::collections::BTreeSet;
 use std::fmt::UpperHex;
 
@@ -43,9 +43,9 @@ pub struct Exchange<W> {
 impl<W: Element + UpperHex> Exchange<W> {
     pub fn random(random: &mut Random) -> Self {
         let lengths = (random_length(random), random_length(random));
-        let driver = Driver {
+        let driver = Lpspi {
             bit_order: random.order(),
-            ..Driver::default()
+            ..Lpspi::default()
         };
         let kind = Kind::ExchangeSeparate;
         let mut transfer = Transfer::new(kind, driver, lengths, || random.word());

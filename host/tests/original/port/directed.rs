@@ -8,7 +8,7 @@ use crate::common::cases::{Cases, Tally};
 use crate::common::run::{Left, Limits, MAX_BUDGET};
 use crate::common::transfer::{Kind, Sides, Transfer};
 use crate::common::walk;
-use lpspi_host::{BitOrder, Driver};
+use lpspi_host::{BitOrder, Lpspi};
 
 /// The polls of a transfer in which each side moves up to `most` words in its turn.
 fn bursts<W: Element>(transfer: &Transfer<W>, most: usize) -> String {
@@ -38,7 +38,7 @@ impl Directed<'_> {
     fn transfer<W: Element>(&self, bit_order: BitOrder, lengths: (usize, usize)) -> Transfer<W> {
         let mut places = 0..;
         let word = || any_word(places.next().expect("no end"));
-        let driver = Driver {
+        let driver = Lpspi {
             bit_order,
             ..DRIVER
         };

@@ -9,7 +9,7 @@ use crate::common::branches::{RECOVERY, Table};
 use crate::common::function::Function;
 use crate::common::registers::PARAM;
 use crate::common::run::{Left, Limits, found};
-use lpspi_host::Driver;
+use lpspi_host::Lpspi;
 use lpspi_host::raw::{Disabled, Get, Reset, Set};
 use original::{Call, ClockConfigs, Direction, Outcome, Value, run};
 use std::fmt::{self, Debug, Formatter};
@@ -168,7 +168,7 @@ pub(super) struct Case {
     entry: &'static Entry,
     a: u32,
     b: u32,
-    pub(super) driver: Driver,
+    pub(super) driver: Lpspi,
     pub(super) limits: Limits,
 }
 
@@ -199,7 +199,8 @@ impl Case {
             }
             Call::EnqueueTransaction { .. } => {
                 let order = u32::from(driver.bit_order.is_lsb());
-                format!("{name} {a} {order} {} {}", driver.mode, driver.pcs)
+                let (mode, pcs) = (driver.mode.number(), driver.pcs.number());
+                format!("{name} {a} {order} {mode} {pcs}")
             }
             _ => name.to_owned(),
         }
@@ -278,7 +279,7 @@ impl Case {
         Left {
             number: number.expect("the original did not panic"),
             driver: match self.call() {
-                Call::Init => Driver::default().number(),
+                Call::Init => Lpspi::default().number(),
                 _ => driver_number(outcome.driver),
             },
             accesses: outcome.accesses,
