@@ -1,73 +1,75 @@
 //! Resets, and calls without a value.
 
-use crate::{raw, Direction, Driver, Run};
+use crate::raw::{self, Reset, Set};
+use crate::{Direction, Lpspi, Run, Status};
 
 /// Resets the peripheral and restores its settings, the clock from the cache.
 #[inline]
-pub fn soft_reset(driver: Driver, budget: usize, script: &[u32], log: &mut [u32]) -> Run {
-    reset(0, driver, budget, script, log)
+pub fn soft_reset(driver: Lpspi, budget: usize, script: &[u32], log: &mut [u32]) -> Run {
+    reset(Reset::SoftReset, driver, budget, script, log)
 }
 
 /// A soft reset that also clears both error flags.
 #[inline]
-pub fn recover_from_error(driver: Driver, budget: usize, script: &[u32], log: &mut [u32]) -> Run {
-    reset(1, driver, budget, script, log)
+pub fn recover_from_error(driver: Lpspi, budget: usize, script: &[u32], log: &mut [u32]) -> Run {
+    reset(Reset::RecoverFromError, driver, budget, script, log)
 }
 
 /// Resets the peripheral and sets it up as a controller.
 ///
 /// The next driver value is the default, unless the limits are refused.
 #[inline]
-pub fn init(driver: Driver, budget: usize, script: &[u32], log: &mut [u32]) -> Run {
-    reset(2, driver, budget, script, log)
+pub fn init(driver: Lpspi, budget: usize, script: &[u32], log: &mut [u32]) -> Run {
+    reset(Reset::Init, driver, budget, script, log)
 }
 
 /// Clears those of the status flags that are cleared by writing 1.
 #[inline]
 pub fn clear_status(
-    driver: Driver,
-    flags: u32,
+    driver: Lpspi,
+    flags: Status,
     budget: usize,
     script: &[u32],
     log: &mut [u32],
 ) -> Run {
-    set(0, flags, driver, budget, script, log)
+    set(Set::ClearStatus, flags.bits(), driver, budget, script, log)
 }
 
 /// Enables or disables the peripheral.
 #[inline]
 pub fn set_enable(
-    driver: Driver,
+    driver: Lpspi,
     enable: bool,
     budget: usize,
     script: &[u32],
     log: &mut [u32],
 ) -> Run {
-    set(1, enable.into(), driver, budget, script, log)
+    set(Set::SetEnable, enable.into(), driver, budget, script, log)
 }
 
 /// Empties the FIFO of that direction.
 #[inline]
 pub fn clear_fifo(
-    driver: Driver,
+    driver: Lpspi,
     direction: Direction,
     budget: usize,
     script: &[u32],
     log: &mut [u32],
 ) -> Run {
-    set(2, direction as u32, driver, budget, script, log)
+    let a = direction as u32;
+    set(Set::ClearFifo, a, driver, budget, script, log)
 }
 
 /// Places a word into the transmit FIFO.
 #[inline]
 pub fn enqueue_data(
-    driver: Driver,
+    driver: Lpspi,
     word: u32,
     budget: usize,
     script: &[u32],
     log: &mut [u32],
 ) -> Run {
-    set(3, word, driver, budget, script, log)
+    set(Set::EnqueueData, word, driver, budget, script, log)
 }
 
 /// Places a command of that frame size, with the driver's order, mode and chip
@@ -76,27 +78,29 @@ pub fn enqueue_data(
 /// The limits are checked first, then the frame size.
 #[inline]
 pub fn enqueue_transaction(
-    driver: Driver,
+    driver: Lpspi,
     frame_size: u32,
     budget: usize,
     script: &[u32],
     log: &mut [u32],
 ) -> Run {
-    set(4, frame_size, driver, budget, script, log)
+    let kind = Set::EnqueueTransaction;
+    set(kind, frame_size, driver, budget, script, log)
 }
 
-/// The reset of that number.
+/// A reset.
 #[inline]
-fn reset(kind: u32, driver: Driver, budget: usize, script: &[u32], log: &mut [u32]) -> Run {
+fn reset(kind: Reset, driver: Lpspi, budget: usize, script: &[u32], log: &mut [u32]) -> Run {
     Run::of(driver, |driver, accesses, answers| {
-        raw::reset(kind, driver, budget, script, log, accesses, answers)
+        raw::reset(kind as u32, driver, budget, script, log, accesses, answers)
     })
 }
 
-/// The call of that number, with its parameter.
+/// A call with its parameter.
 #[inline]
-fn set(kind: u32, a: u32, driver: Driver, budget: usize, script: &[u32], log: &mut [u32]) -> Run {
+fn set(kind: Set, a: u32, driver: Lpspi, budget: usize, script: &[u32], log: &mut [u32]) -> Run {
     Run::of(driver, |driver, accesses, answers| {
+        let kind = kind as u32;
         raw::set(kind, a, driver, budget, script, log, accesses, answers)
     })
 }

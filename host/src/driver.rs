@@ -1,32 +1,41 @@
 //! The driver value, and what a run came to.
 
-use crate::{answer, BitOrder, Error};
+use crate::error::{Error, answer};
+use crate::{BitOrder, Mode, Pcs};
 
-/// The driver's settings and its clock cache.
+/// DBT and SCKDIV as they were last set.
 #[derive(Debug, Clone, Copy, PartialEq, Eq, Default)]
-pub struct Driver {
-    /// Bit order.
-    pub bit_order: BitOrder,
-    /// SPI mode number, taken modulo 4.
-    pub mode: u32,
-    /// Chip select number, taken modulo 4.
-    pub pcs: u32,
-    /// The cache's DBT.
+pub struct CcrCache {
+    /// Delay between transfers.
     pub dbt: u8,
-    /// The cache's SCKDIV.
+    /// SCK divider.
     pub sckdiv: u8,
 }
 
-impl Driver {
+/// The driver value: what the Rust's driver holds beside the registers. The default is the one
+/// after [`init`](crate::init).
+#[derive(Debug, Clone, Copy, PartialEq, Eq, Default)]
+pub struct Lpspi {
+    /// Bit order.
+    pub bit_order: BitOrder,
+    /// SPI mode.
+    pub mode: Mode,
+    /// Chip select.
+    pub pcs: Pcs,
+    /// The clock's cache.
+    pub ccr_cache: CcrCache,
+}
+
+impl Lpspi {
     /// The number in the C form: SCKDIV in bits 7..0, DBT in 15..8, the chip
     /// select in 17..16, the mode in 19..18, bit 20 for LSB.
     #[inline]
     pub const fn number(self) -> u32 {
         (self.bit_order.is_lsb() as u32) << 20
-            | (self.mode % 4) << 18
-            | (self.pcs % 4) << 16
-            | (self.dbt as u32) << 8
-            | self.sckdiv as u32
+            | self.mode.number() << 18
+            | self.pcs.number() << 16
+            | (self.ccr_cache.dbt as u32) << 8
+            | self.ccr_cache.sckdiv as u32
     }
 
     /// The driver of a number. Higher bits do not count; runs leave them as found.
@@ -38,10 +47,12 @@ impl Driver {
         };
         Self {
             bit_order,
-            mode: number >> 18 & 3,
-            pcs: number >> 16 & 3,
-            dbt: (number >> 8) as u8,
-            sckdiv: number as u8,
+            mode: Mode::of_number(number >> 18),
+            pcs: Pcs::of_number(number >> 16),
+            ccr_cache: CcrCache {
+                dbt: (number >> 8) as u8,
+                sckdiv: number as u8,
+            },
         }
     }
 }
@@ -55,8 +66,8 @@ pub struct Run {
     pub accesses: usize,
     /// Answers of the script used.
     pub answers: usize,
-    /// The next driver value. Its mode and chip select are below 4.
-    pub driver: Driver,
+    /// The next driver value.
+    pub driver: Lpspi,
 }
 
 impl Run {
@@ -72,7 +83,7 @@ impl Run {
     /// answers.
     #[inline]
     pub(crate) fn of(
-        driver: Driver,
+        driver: Lpspi,
         call: impl FnOnce(&mut u32, &mut usize, &mut usize) -> u32,
     ) -> Self {
         let (mut driver, mut accesses, mut answers) = (driver.number(), 0, 0);
@@ -81,7 +92,7 @@ impl Run {
             result: answer(number, ()),
             accesses,
             answers,
-            driver: Driver::of_number(driver),
+            driver: Lpspi::of_number(driver),
         }
     }
 }

@@ -1,13 +1,14 @@
 //! Trials: two boards on one bus, and a list of events.
 
-use crate::raw::{self, END_STATE};
-use crate::{answer, Driver, Element, Error};
+use crate::error::{Error, answer};
+use crate::raw::{self, END_STATE, Event};
+use crate::{Element, Lpspi};
 
 /// What an end of the bus starts with.
 #[derive(Debug)]
 pub struct Board<'a, W> {
     /// The driver's value.
-    pub driver: Driver,
+    pub driver: Lpspi,
     /// Whether `read` is sent as well. `write` does not count then.
     pub in_place: bool,
     /// Both FIFOs have room for so many words as a power of 2, at most 4.
@@ -79,21 +80,27 @@ pub struct Trial {
 
 /// Lets the events happen to a gate and an antenna, both fresh.
 ///
-/// Each byte is an event, modulo 9: a step of the gate without and with the busy bit,
-/// the same of the antenna, a clock, noise at the gate that sets T and R, the same at
-/// the antenna. Elements not received are kept.
+/// Elements not received are kept.
 ///
 /// Boards that make no pair are refused with [`Error::Unpaired`]: there are no ends
 /// then, and the read buffers are as found.
-pub fn trial<W: Element>(gate: Board<W>, antenna: Board<W>, events: &[u8]) -> Result<Trial, Error> {
+pub fn trial<W: Element>(
+    gate: Board<W>,
+    antenna: Board<W>,
+    events: &[Event],
+) -> Result<Trial, Error> {
     let mut states = [[0; END_STATE]; 2];
     let number = raw::trial(
-        [gate.driver.number(), antenna.driver.number()],
+        gate.driver.number(),
+        antenna.driver.number(),
         u32::from(gate.in_place) | u32::from(antenna.in_place) << 1,
-        [gate.exponent, antenna.exponent],
-        (gate.read, gate.write),
-        (antenna.read, antenna.write),
-        events,
+        gate.exponent,
+        antenna.exponent,
+        gate.read,
+        gate.write,
+        antenna.read,
+        antenna.write,
+        Event::numbers(events),
         states.as_flattened_mut(),
     );
     let [gate, antenna] = states.map(EndState);

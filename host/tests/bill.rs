@@ -4,11 +4,11 @@
 mod common;
 
 use common::buslog::documented;
-use common::random_runs::{random_driver, Mood};
+use common::random_runs::{Mood, random_driver};
 use common::registers::{FSR, SR, TCR, WRITE};
-use common::run::{found, Limits, MAX_BUDGET};
-use common::transfer::{Element, Kind, Transfer};
-use common::{walk, Random};
+use common::run::{Limits, MAX_BUDGET, found};
+use common::transfer::{Element, Kind, Sides, Transfer};
+use common::{Random, walk};
 use lpspi_host::raw;
 
 /// w, counted off the log alone: behind an unready poll the next one begins at once, so that a read of FSR is followed by a read of SR.
@@ -34,7 +34,8 @@ struct Seen {
 
 impl Seen {
     fn enough(&self, kind: Kind) -> bool {
-        let lengths = kind != Kind::Separate || self.read_longer.min(self.write_longer) >= 200;
+        let lengths =
+            kind != Kind::ExchangeSeparate || self.read_longer.min(self.write_longer) >= 200;
         self.ready >= 50 && self.unready >= 500 && self.before_command >= 50 && lengths
     }
 }
@@ -112,9 +113,9 @@ fn empty_bills<W: Element>(random: &mut Random, kind: Kind) {
         (MAX_BUDGET + 1, 2 * MAX_BUDGET + 2, 5),
     ] {
         let (mut read, write) = match kind {
-            Kind::Separate => (vec![], &[][..]),
-            Kind::Write => (other.to_vec(), &[][..]),
-            Kind::InPlace | Kind::Read => (vec![], &other[..]),
+            Kind::ExchangeSeparate => (vec![], &[][..]),
+            Kind::WriteNoRead => (other.to_vec(), &[][..]),
+            Kind::Exchange | Kind::ReadNoWrite => (vec![], &other[..]),
         };
         let (script, mut log) = (random.words(20), found(log_len));
         let (mut driver, mut accesses, mut answers) = (random.word(), 7, 7);

@@ -3,7 +3,7 @@
 mod common;
 
 use common::buslog::{
-    documented, example_output, largest, port, Text, BAD, EXAMPLE_INPUT, LONGEST,
+    BAD, EXAMPLE_INPUT, LONGEST, Text, documented, example_output, largest, port,
 };
 use lpspi_host::{buslog, raw};
 

@@ -1,18 +1,25 @@
 //! Calls by example. The accesses expected of resets, settings and values are those
 //! of a model that was written from the original and the scope document alone.
 
+mod common;
+
+use common::function::Function;
+use common::run::Limits;
+use lpspi_host::raw::Get;
 use lpspi_host::*;
 
 /// What a log holds before a run, in each place.
 const FOUND: u32 = 0xAAAA_AAAA;
 
 /// A driver none of whose settings is the starting one.
-const DRIVER: Driver = Driver {
+const DRIVER: Lpspi = Lpspi {
     bit_order: BitOrder::Lsb,
-    mode: 3,
-    pcs: 2,
-    dbt: 0xB2,
-    sckdiv: 0xC3,
+    mode: MODE_3,
+    pcs: Pcs::Pcs2,
+    ccr_cache: CcrCache {
+        dbt: 0xB2,
+        sckdiv: 0xC3,
+    },
 };
 
 /// Compares a run's accesses, as far as they go, with those listed, and its number,
@@ -40,11 +47,11 @@ fn check(run: Run, log: &mut [u32], listed: &str, ending: &str) {
 #[test]
 fn driver_numbers() {
     assert_eq!(DRIVER.number(), 0x1E_B2C3);
-    assert_eq!(Driver::of_number(0xFFFE_B2C3), DRIVER);
-    assert_eq!(Driver::of_number(0), Driver::default());
-    let past = Driver {
-        mode: u32::MAX,
-        pcs: 6,
+    assert_eq!(Lpspi::of_number(0xFFFE_B2C3), DRIVER);
+    assert_eq!(Lpspi::of_number(0), Lpspi::default());
+    let past = Lpspi {
+        mode: Mode::of_number(u32::MAX),
+        pcs: Pcs::of_number(6),
         ..DRIVER
     };
     assert_eq!(past.number(), DRIVER.number());
@@ -63,7 +70,7 @@ fn limits_come_first_and_leave_all_as_found() {
         check(run, log, "", ending);
         let (run, value) = status(DRIVER, budget, &script, log);
         check(run, log, "", ending);
-        assert_eq!(value, 0);
+        assert_eq!(value, Status::empty());
     }
 }
 
@@ -106,6 +113,7 @@ fn clocks_and_the_cache() {
         check(run, log, listed, ending);
     }
 
+    let configs = ClockConfigs::from_raw(0x1234_5678);
     let script = [1, 0x0B, 0x0A, 0xFFFF_FFFE];
     let listed = "R 10 1, R 10 B, W 10 A, R 10 A, W 40 12345678, R 10 FFFFFFFE, W 10 FFFFFFFF";
     for (budget, ending) in [
@@ -113,7 +121,7 @@ fn clocks_and_the_cache() {
         (4, "4 4 3 1E5678"),
         (20, "0 7 4 1E5678"),
     ] {
-        let run = set_clock_configs(DRIVER, 0x1234_5678, budget, &script, log);
+        let run = set_clock_configs(DRIVER, configs, budget, &script, log);
         check(run, log, listed, ending);
     }
 }
@@ -140,13 +148,13 @@ fn other_disabled_settings() {
     }
     for (pcs, polarity, cfgr1, listed) in [
         (
-            3,
+            Pcs::Pcs3,
             PcsPolarity::ActiveHigh,
             [0x200, 0xFFFF_F5FC],
             "R 24 200, R 24 FFFFF5FC, W 24 FFFFFAFC",
         ),
         (
-            4,
+            Pcs::Pcs0,
             PcsPolarity::ActiveLow,
             [0xFFFF_F3FF, 0xF03],
             "R 24 FFFFF3FF, R 24 F03, W 24 203",
@@ -261,32 +269,23 @@ fn watermarks() {
 /// Whatever stood there before, and also with a number other than 0.
 #[test]
 fn a_value_is_always_written() {
-    let log = &mut [FOUND; 80];
-    let script = [u32::MAX; 2];
     for (kind, budget, number, expected) in [
-        (2, 20, 0, 0x0100_3F03),
-        (2, 0, 4, 0),
-        (2, 41, 5, 0),
-        (1, 20, 7, 0),
-        (4, 20, 0, 0x00FF_00FF_001F_001F),
-        (5, 20, 0, 0),
+        (Get::Status, 20, 0, 0x0100_3F03),
+        (Get::Status, 0, 4, 0),
+        (Get::Status, 41, 5, 0),
+        (Get::SetWatermark, 20, 7, 0),
+        (Get::FifoStatus, 20, 0, 0x00FF_00FF_001F_001F),
+        (Get::ReadData, 20, 0, 0),
     ] {
-        let (mut driver, mut accesses, mut answers, mut value) = (DRIVER.number(), 7, 7, 7);
-        let given = raw::get(
-            kind,
-            0,
-            0,
-            &mut driver,
+        let limits = Limits {
             budget,
-            &script,
-            log,
-            &mut accesses,
-            &mut answers,
-            &mut value,
-        );
-        assert_eq!((given, value), (number, expected), "kind {kind}");
-        assert!(accesses < 3 && answers < 3, "kind {kind}");
-        assert_eq!(driver, DRIVER.number(), "kind {kind}");
+            log_len: 80,
+            script: vec![u32::MAX; 2],
+        };
+        let left = Function::Get(kind).port([0; 2], DRIVER.number(), &limits);
+        assert_eq!((left.number, left.value), (number, expected), "{kind:?}");
+        assert!(left.accesses < 3 && left.answers < 3, "{kind:?}");
+        assert_eq!(left.driver, DRIVER.number(), "{kind:?}");
     }
 }
 
@@ -295,7 +294,7 @@ fn other_values() {
     let log = &mut [FOUND; 80];
     let (run, flags) = status(DRIVER, 20, &[u32::MAX], log);
     check(run, log, "R 14 FFFFFFFF", "0 1 1 1EB2C3");
-    assert_eq!(flags, 0x0100_3F03);
+    assert_eq!((flags, flags.bits()), (Status::all(), 0x0100_3F03));
 
     for (cr, enabled) in [(1, true), (0xFFFF_FFFE, false)] {
         let (run, given) = is_enabled(DRIVER, 20, &[cr], log);
@@ -320,8 +319,11 @@ fn other_values() {
 #[test]
 fn calls_without_a_value() {
     let log = &mut [FOUND; 80];
-    let run = clear_status(DRIVER, u32::MAX, 20, &[], log);
+    let run = clear_status(DRIVER, Status::from_bits_retain(u32::MAX), 20, &[], log);
     check(run, log, "W 14 3F00", "0 1 0 1EB2C3");
+    let errors = Status::TRANSMIT_ERROR | Status::RECEIVE_ERROR;
+    let run = clear_status(DRIVER, errors, 20, &[], log);
+    check(run, log, "W 14 1800", "0 1 0 1EB2C3");
     let run = set_enable(DRIVER, true, 20, &[0xFFFF_FFFE], log);
     check(run, log, "R 10 FFFFFFFE, W 10 FFFFFFFF", "0 2 1 1EB2C3");
     let run = set_enable(DRIVER, false, 20, &[0x0B], log);

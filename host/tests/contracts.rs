@@ -69,7 +69,9 @@ fn public_functions_have_contracts() {
 
 #[test]
 fn a_missing_contract_is_seen() {
-    let found = public_functions("pub fn f(a: u8) -> u8\n{\n    a\n}\n\nfn g() {\n}\n\npub extern \"C\" fn h(a: u8)\n    requires { ⌜ a ≡ 0 ⌝ }\n{\n}\n");
+    let found = public_functions(
+        "pub fn f(a: u8) -> u8\n{\n    a\n}\n\nfn g() {\n}\n\npub extern \"C\" fn h(a: u8)\n    requires { ⌜ a ≡ 0 ⌝ }\n{\n}\n",
+    );
     assert_eq!(
         found,
         [

@@ -1,9 +1,10 @@
-//! The proved functions against `reference`.
+//! The proved functions against `common::reference`.
 
 mod common;
 
-use common::{lengths, Random};
-use lpspi_host::{raw, reference, BitOrder, Command, Error};
+use common::command::Command;
+use common::{Random, lengths, reference};
+use lpspi_host::{BitOrder, ClockConfigs, Error, raw};
 
 /// The number and out-value that a call must give.
 fn expected(answer: Result<u32, Error>, found: u32) -> (u32, u32) {
@@ -18,9 +19,9 @@ fn check_command(random: &mut Random, command: &Command) -> bool {
     let answer = reference::command(command);
     let found = random.word();
     let mut word = found;
-    let number = raw::command(command, &mut word);
+    let number = command.raw(&mut word);
     assert_eq!((number, word), expected(answer, found), "{command:?}");
-    assert_eq!(lpspi_host::command(command), answer, "{command:?}");
+    assert_eq!(command.transaction(), answer, "{command:?}");
     random.cases.count();
     answer.is_ok()
 }
@@ -78,7 +79,8 @@ fn check_clock(random: &mut Random, source: u32, wanted: u32) {
     let number = raw::clock(source, wanted, &mut word);
     let case = format_args!("source {source}, clock {wanted}").to_string();
     assert_eq!((number, word), expected(answer, found), "{case}");
-    assert_eq!(lpspi_host::clock(source, wanted), answer, "{case}");
+    let configs = ClockConfigs::from_hz(source, wanted);
+    assert_eq!(configs.map(ClockConfigs::as_raw), answer, "{case}");
     random.cases.count();
 }
 
@@ -135,7 +137,7 @@ fn pack_one_word() {
                 let bytes = random.bytes(len);
                 let found = random.word();
                 let mut word = found;
-                let number = raw::pack_u8(order, &bytes, &mut word);
+                let number = raw::pack_u8(order.is_lsb(), &bytes, &mut word);
                 let answer = reference::pack_u8(order, &bytes);
                 let case = format!("{order:?} {bytes:02X?}");
                 assert_eq!((number, word), expected(answer, found), "{case}");

@@ -3,8 +3,8 @@
 
 mod common;
 
-use common::document::shown;
 use common::Random;
+use common::document::shown;
 use std::fs;
 use std::path::Path;
 

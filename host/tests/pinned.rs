@@ -4,7 +4,7 @@
 mod pinned;
 
 use pinned::sha256::hex;
-use pinned::{check, SUM};
+use pinned::{SUM, check};
 use std::fs;
 use std::path::Path;
 

@@ -2,9 +2,9 @@
 
 mod common;
 
-use common::{lengths, Random};
+use common::{Random, lengths};
 use lpspi_host::BitOrder::{Lsb, Msb};
-use lpspi_host::{clock, pack_u8, pack_words_u8, unpack_u8, unpack_words_u8, BitOrder};
+use lpspi_host::{BitOrder, ClockConfigs, pack_u8, pack_words_u8, unpack_u8, unpack_words_u8};
 
 /// The word with the places above its `count` elements zero.
 fn low_elements(word: u32, count: usize) -> u32 {
@@ -115,7 +115,7 @@ fn clock_bound() {
     let (mut within, mut over) = (0, 0);
     for _ in 0..200_000 {
         let (source, wanted) = (random.any_size().max(1), random.any_size().max(1));
-        let word = clock(source, wanted).unwrap();
+        let word = ClockConfigs::from_hz(source, wanted).unwrap().as_raw();
         let divider = u64::from(word & 0xFF) + 2;
         // SCK = source / divider, compared without rounding.
         let bounded = u64::from(source) <= u64::from(wanted) * divider;

@@ -2,17 +2,19 @@
 
 mod common;
 
-use common::buslog::{example_output, printed};
-use common::run::{found, Left, EXAMPLE_SCRIPT};
 use common::Random;
-use lpspi_host::{exchange_separate, flush, raw, Driver, Element, Run};
+use common::buslog::{example_output, printed};
+use common::function::Function;
+use common::run::{EXAMPLE_SCRIPT, Left, Limits, found};
+use lpspi_host::raw::{self, Disabled, Get, Reset, Set, Transfer};
+use lpspi_host::{Element, Lpspi, Run, exchange_separate, flush};
 use std::fmt::Debug;
 
 #[test]
 fn the_example() {
     let script = EXAMPLE_SCRIPT;
     let (mut read, mut log) = ([0u8], found(50));
-    let driver = Driver::default();
+    let driver = Lpspi::default();
     let run = exchange_separate(driver, &mut read, &[0xA5], 20, &script, &mut log);
     assert_eq!(log[24..], found(50)[24..]);
     assert_eq!(
@@ -41,9 +43,9 @@ fn ready_runs_make_4_and_8n_accesses() {
             result: Ok(()),
             accesses: 4 + 8 * n,
             answers: 3 + 7 * n,
-            driver: Driver::default(),
+            driver: Lpspi::default(),
         };
-        let (driver, budget) = (Driver::default(), 4 + 8 * n);
+        let (driver, budget) = (Lpspi::default(), 4 + 8 * n);
         let mut read = vec![0u32; n];
         let write = read.clone();
         let run = exchange_separate(driver, &mut read, &write, budget, &script, &mut log);
@@ -71,7 +73,7 @@ fn without_accesses<W: Element + PartialEq + Debug>(
     let (mut driver, mut accesses, mut answers) = (word, 7, 7);
     let mut given = read.to_vec();
     let number = raw::transfer(
-        0,
+        Transfer::ExchangeSeparate as u32,
         &mut driver,
         &mut given,
         write,
@@ -148,44 +150,95 @@ fn runs_without_accesses() {
 #[test]
 fn the_word_of_the_driver() {
     let mut random = Random::new("the_word_of_the_driver");
+    let init = Function::Reset(Reset::Init);
+    let enqueue = Function::Set(Set::EnqueueTransaction);
+    let clock_hz = Function::Disabled(Disabled::SetClockHz);
+    let clock_configs = Function::Disabled(Disabled::SetClockConfigs);
     let cases = [
-        // function, kind, parameters, budget, number, the word's last bits if they change
-        (0, 0, [0, 0], 8_001, 5, None),
-        (0, 1, [0, 0], 41, 5, None),
-        (0, 2, [0, 0], 41, 5, None),
-        (0, 2, [0, 0], 0, 4, Some(0)),
-        (0, 2, [0, 0], 40, 0, Some(0)),
-        (1, 4, [7, 0], 8_001, 5, None),
-        (1, 4, [7, 0], 40, 1, None),
-        (1, 4, [8, 0], 40, 0, None),
-        (2, 0, [0, 1], 41, 5, None),
-        (2, 0, [0, 1], 40, 6, None),
-        (2, 0, [1, 0], 40, 6, None),
-        (2, 1, [0x1234_5678, 0], 40, 0, Some(0x5678)),
-        (3, 2, [0, 0], 41, 5, None),
-        (3, 1, [0, 0], 40, 0, None),
-        (3, 5, [0, 0], 40, 0, None),
+        // call, parameters, budget, number, the word's last bits if they change
+        (Function::Reset(Reset::SoftReset), [0, 0], 8_001, 5, None),
+        (
+            Function::Reset(Reset::RecoverFromError),
+            [0, 0],
+            41,
+            5,
+            None,
+        ),
+        (init, [0, 0], 41, 5, None),
+        (init, [0, 0], 0, 4, Some(0)),
+        (init, [0, 0], 40, 0, Some(0)),
+        (enqueue, [7, 0], 8_001, 5, None),
+        (enqueue, [7, 0], 40, 1, None),
+        (enqueue, [8, 0], 40, 0, None),
+        (clock_hz, [0, 1], 41, 5, None),
+        (clock_hz, [0, 1], 40, 6, None),
+        (clock_hz, [1, 0], 40, 6, None),
+        (clock_configs, [0x1234_5678, 0], 40, 0, Some(0x5678)),
+        (Function::Get(Get::Status), [0, 0], 41, 5, None),
+        (Function::Get(Get::SetWatermark), [0, 0], 40, 0, None),
+        (Function::Get(Get::ReadData), [0, 0], 40, 0, None),
     ];
     for case in cases {
-        let (function, kind, [a, b], budget, number, last) = case;
-        let (word, script, mut log) = (random.word(), [0; 40], found(80));
-        let (mut driver, mut made, mut used, mut value) = (word, 7, 7, 7);
-        let (d, l, m, n) = (&mut driver, &mut log[..], &mut made, &mut used);
-        let given = match function {
-            0 => raw::reset(kind, d, budget, &script, l, m, n),
-            1 => raw::set(kind, a, d, budget, &script, l, m, n),
-            2 => raw::disabled(kind, a, b, d, budget, &script, l, m, n),
-            _ => raw::get(kind, a, b, d, budget, &script, l, m, n, &mut value),
+        let (call, parameters, budget, number, last) = case;
+        let word = random.word();
+        let limits = Limits {
+            budget,
+            log_len: 80,
+            script: vec![0; 40],
         };
-        assert_eq!(given, number, "{case:?}");
+        let left = call.port(parameters, word, &limits);
+        assert_eq!(left.number, number, "{case:?}");
         let expected = match last {
             // `init` starts anew; a clock changes the cache only.
             Some(0) => word & !0x1F_FFFF,
             Some(cache) => word & !0xFFFF | cache,
             None => word,
         };
-        assert_eq!(driver, expected, "{case:?}");
+        assert_eq!(left.driver, expected, "{case:?}");
         random.cases.count();
+    }
+}
+
+/// A number past a function's last call is taken modulo the number of its calls.
+#[test]
+fn kinds_past_the_last() {
+    let mut random = Random::new("kinds_past_the_last");
+    let past = |kind: u32, kinds: u32| {
+        let most = (u32::MAX - kind) / kinds;
+        [1, 2, most / 2, most].map(|rounds| kind + rounds * kinds)
+    };
+    for function in Function::ALL {
+        let (parameters, driver) = ([8, 1], random.word());
+        let limits = Limits::new(40, &random.words(40));
+        let left = function.port(parameters, driver, &limits);
+        for kind in past(function.kind(), function.kinds()) {
+            let other = function.port_of_kind(kind, parameters, driver, &limits);
+            assert_eq!(other, left, "{function:?} {kind}");
+            random.cases.count();
+        }
+    }
+    for transfer in Transfer::ALL {
+        let (word, script) = (random.word(), all_ready(2));
+        let run = |kind| {
+            let (mut driver, mut accesses, mut answers) = (word, 7, 7);
+            let (mut read, mut log) = ([1u16, 2, 3], found(80));
+            let number = raw::transfer(
+                kind,
+                &mut driver,
+                &mut read,
+                &[4, 5, 6],
+                40,
+                &script,
+                &mut log,
+                &mut accesses,
+                &mut answers,
+            );
+            (number, driver, read, log, accesses, answers)
+        };
+        for kind in past(transfer as u32, 4) {
+            assert_eq!(run(kind), run(transfer as u32), "{transfer:?} {kind}");
+            random.cases.count();
+        }
     }
 }
 
@@ -202,7 +255,7 @@ fn flush_sees_the_receive_error_first() {
         (&[0, 0], 4, 2),
     ];
     for (script, number, accesses) in cases {
-        let run = flush(Driver::default(), 10, script, &mut found(20));
+        let run = flush(Lpspi::default(), 10, script, &mut found(20));
         let given = (run.number(), run.accesses, run.answers);
         assert_eq!(given, (number, accesses, accesses), "{script:X?}");
     }

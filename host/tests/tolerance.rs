@@ -3,10 +3,15 @@
 
 mod common;
 
+use common::Random;
 use common::registers::{CCR, MEN, WRITE};
 use common::run::found;
-use common::Random;
-use lpspi_host::{clock, set_clock_hz, Driver};
+use lpspi_host::{CcrCache, ClockConfigs, Lpspi, set_clock_hz};
+
+/// The CCR word of clocks that are not 0.
+fn clock(source: u32, wanted: u32) -> u32 {
+    ClockConfigs::from_hz(source, wanted).unwrap().as_raw()
+}
 
 fn sckdiv(word: u32) -> u32 {
     word & 0xFF
@@ -53,7 +58,7 @@ impl Seen {
     }
 
     fn pair(&mut self, wanted: u32, figures: [u32; 2]) {
-        let words = figures.map(|source| clock(source, wanted).unwrap());
+        let words = figures.map(|source| clock(source, wanted));
         self.hold(wanted, figures, words);
     }
 
@@ -71,7 +76,7 @@ impl Seen {
 fn every_pair_for_small_clocks() {
     let (mut seen, mut first) = (Seen::default(), None);
     for wanted in 1..=3 {
-        let answers = || (1..=270 * wanted).map(|source| clock(source, wanted).unwrap());
+        let answers = || (1..=270 * wanted).map(|source| clock(source, wanted));
         let words: Vec<u32> = answers().collect();
         for (t, v) in (1..).zip(answers()) {
             for (s, u) in (1..=t).zip(&words) {
@@ -142,7 +147,7 @@ fn the_bound_is_reached() {
             let half = 3 + random.below(125 - steps as usize) as u32;
             let s = 2 * wanted * half;
             let t = s + 2 * wanted * steps + 1;
-            let [u, v] = [s, t].map(|source| sckdiv(clock(source, wanted).unwrap()));
+            let [u, v] = [s, t].map(|source| sckdiv(clock(source, wanted)));
             let moved = (2 * (half - 1), 2 * (half + steps));
             assert_eq!((u, v), moved, "clock {wanted}, sources {s} and {t}");
             assert_eq!(u64::from(moved.1 - moved.0), bound(wanted, s, t));
@@ -159,7 +164,7 @@ fn a_figure_above_the_source_keeps_the_clock() {
     for _ in 0..200_000 {
         let (wanted, figure) = (random.any_size().max(1), random.any_size().max(1));
         let source = 1 + random.below(figure as usize) as u32;
-        let divider = u64::from(sckdiv(clock(figure, wanted).unwrap())) + 2;
+        let divider = u64::from(sckdiv(clock(figure, wanted))) + 2;
         let [wanted, figure, source] = [wanted, figure, source].map(u64::from);
         let keeps = source <= wanted * divider;
         // Past 256 times the clock the clamp has its way, whatever the figure.
@@ -178,13 +183,13 @@ fn a_figure_above_the_source_keeps_the_clock() {
     assert!(kept.min(clamped).min(over) > 500, "{kept} {clamped} {over}");
 }
 
-/// `set_clock_hz` writes CCR once, with the word that `clock` answers, and the driver keeps its DBT and SCKDIV.
+/// `set_clock_hz` writes CCR once, with the word that `from_hz` answers, and the driver keeps its DBT and SCKDIV.
 #[test]
 fn a_run_sets_the_same_word() {
     let mut random = Random::new("a_run_sets_the_same_word");
     for _ in 0..2_000 {
         let (source, wanted) = (random.any_size().max(1), random.any_size().max(1));
-        let driver = Driver::of_number(random.word());
+        let driver = Lpspi::of_number(random.word());
         let waits = random.below(4);
         let mut script = vec![random.word(), random.word()];
         script.extend((0..waits).map(|_| random.word() | MEN));
@@ -197,14 +202,13 @@ fn a_run_sets_the_same_word() {
             .filter(|pair| pair[0] == WRITE + CCR)
             .map(|pair| pair[1])
             .collect();
-        let word = clock(source, wanted).unwrap();
+        let word = clock(source, wanted);
         assert_eq!(ccr, [word], "source {source}, clock {wanted}");
         let [low, dbt, _, _] = word.to_le_bytes();
         assert_eq!(
             run.driver,
-            Driver {
-                dbt,
-                sckdiv: low,
+            Lpspi {
+                ccr_cache: CcrCache { dbt, sckdiv: low },
                 ..driver
             }
         );

@@ -1,19 +1,21 @@
 //! Trials of two boards on one bus: what the ends show, and what a refusal leaves.
 
 use lpspi_host::raw::{self, END_STATE};
-use lpspi_host::{trial, BitOrder, Board, Direction, Driver, Element, EndState, Error, Trial};
+use lpspi_host::{
+    BitOrder, Board, Direction, Element, EndState, Error, Event, Lpspi, LpspiError, Trial, trial,
+};
 use std::fmt::Debug;
 
 /// Events by the letters of the program `trial`.
-fn events(letters: &str) -> Vec<u8> {
-    let number = |letter| "gGaActrTR".find(letter).expect("an event") as u8;
-    letters.chars().map(number).collect()
+fn events(letters: &str) -> Vec<Event> {
+    let event = |letter| Event::ALL["gGaActrTR".find(letter).expect("an event")];
+    letters.chars().map(event).collect()
 }
 
 /// Boards with a buffer to read into and one to send.
 fn separate<'a>(read: &'a mut [u8], write: &'a [u8], exponent: usize) -> Board<'a, u8> {
     Board {
-        driver: Driver::default(),
+        driver: Lpspi::default(),
         in_place: false,
         exponent,
         read,
@@ -92,7 +94,10 @@ fn one_says_so() {
     assert!(left.gate.ok_twice());
     let end = left.antenna;
     assert_eq!(end.transfer(), Some(Ok(())));
-    assert_eq!(end.flush(), Some(Err(Error::Fifo(Direction::Tx))));
+    assert_eq!(
+        end.flush(),
+        Some(Err(LpspiError::Fifo(Direction::Tx).into()))
+    );
     assert!(!end.ok_twice());
     assert_eq!([end.transmit_error(), end.receive_error()], [true, false]);
     assert_eq!(end.to_send(), [0x42]);
@@ -116,8 +121,14 @@ fn a_lost_word() {
     let end = trial(gate, antenna, &events(&happened))
         .expect("a pair")
         .antenna;
-    assert_eq!(end.transfer(), Some(Err(Error::Fifo(Direction::Tx))));
-    assert_eq!(end.flush(), Some(Err(Error::Fifo(Direction::Rx))));
+    assert_eq!(
+        end.transfer(),
+        Some(Err(LpspiError::Fifo(Direction::Tx).into()))
+    );
+    assert_eq!(
+        end.flush(),
+        Some(Err(LpspiError::Fifo(Direction::Rx).into()))
+    );
     assert_eq!([end.transmit_error(), end.receive_error()], [true; 2]);
     assert_eq!(end.to_send(), []);
     assert_eq!(end.to_read(), [0x6463_6261]);
@@ -136,6 +147,8 @@ fn boards_that_make_no_pair_are_refused() {
 /// What the state holds before a trial. No word of a state is this.
 const FOUND: u32 = 0xDEAD_BEEF;
 
+const BOTH_IN_PLACE: u32 = 0b11;
+
 /// A trial in the C form, of a gate with three elements and an antenna with so many,
 /// the gate's all the first of two, the antenna's the second.
 /// Answers the number and the lent state, of so many words. At 9 the buffers must be as
@@ -147,19 +160,23 @@ fn left<W: Element + Copy + PartialEq + Debug>(
     elements: usize,
     room: usize,
 ) -> (u32, Vec<u32>) {
-    let driver = |bit_order| Driver {
+    let [gate_driver, antenna_driver] = orders.map(|bit_order| Lpspi {
         bit_order,
-        ..Driver::default()
-    };
+        ..Lpspi::default()
+    });
     let (mut gate, mut antenna) = ([ours; 3], vec![theirs; elements]);
     let mut state = vec![FOUND; room];
     let number = raw::trial(
-        orders.map(|order| driver(order).number()),
-        3,
-        exponents,
-        (&mut gate, &[]),
-        (&mut antenna, &[]),
-        &events(&"gac".repeat(20)),
+        gate_driver.number(),
+        antenna_driver.number(),
+        BOTH_IN_PLACE,
+        exponents[0],
+        exponents[1],
+        &mut gate,
+        &[],
+        &mut antenna,
+        &[],
+        Event::numbers(&events(&"gac".repeat(20))),
         &mut state,
     );
     if number == 9 {

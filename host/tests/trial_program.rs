@@ -2,9 +2,9 @@
 
 mod common;
 
-use common::document::shown;
 use common::Random;
-use lpspi_host::{trial, BitOrder, Board, Driver, Element, Error};
+use common::document::shown;
+use lpspi_host::{BitOrder, Board, Element, Error, Event, Lpspi, trial};
 use std::fmt::LowerHex;
 
 /// The longest input that is taken.
@@ -108,7 +108,7 @@ struct Lines {
     in_place: [bool; 2],
     exponents: [usize; 2],
     elements: [Vec<u8>; 2],
-    events: Vec<u8>,
+    events: Vec<Event>,
 }
 
 impl Lines {
@@ -127,9 +127,10 @@ impl Lines {
             line
         });
         let events = (0..random.below(600)).map(|_| match random.below(500) {
-            0..15 => 4,
-            15 => random.below(9) as u8,
-            turn => (turn % 2 * 2) as u8,
+            0..15 => Event::Clock,
+            15 => Event::ALL[random.below(9)],
+            turn if turn % 2 == 0 => Event::GateStep,
+            _ => Event::AntennaStep,
         });
         Self {
             events: events.collect(),
@@ -146,7 +147,7 @@ impl Lines {
             let kind = if self.in_place[end] { 'P' } else { 'S' };
             format!("{kind}{}", self.exponents[end])
         });
-        let letter = |event: &u8| b"gGaActrTR"[usize::from(*event)];
+        let letter = |event: &Event| b"gGaActrTR"[*event as usize];
         let lines = [
             format!("{order} {gate} {antenna}{width}").into_bytes(),
             self.elements[0].clone(),
@@ -170,9 +171,9 @@ impl Lines {
         let mut end = 0;
         let [gate, antenna] = reads.each_mut().map(|read| {
             let board = Board {
-                driver: Driver {
+                driver: Lpspi {
                     bit_order: orders[usize::from(self.lsb)],
-                    ..Driver::default()
+                    ..Lpspi::default()
                 },
                 in_place: self.in_place[end],
                 exponent: self.exponents[end],

@@ -2,8 +2,8 @@
 
 mod common;
 
-use common::{lengths, Random};
-use lpspi_host::{clock, command, pack_words_u8, unpack_words_u8, BitOrder};
+use common::{Random, lengths};
+use lpspi_host::{BitOrder, ClockConfigs, pack_words_u8, unpack_words_u8};
 
 #[test]
 #[cfg_attr(not(original), ignore = "the original is missing")]
@@ -37,8 +37,9 @@ fn clocks() {
     for _ in 0..100_000 {
         let (source, wanted) = (random.any_size().max(1), random.any_size().max(1));
         let word = original::clock_word(source, wanted);
+        let configs = ClockConfigs::from_hz(source, wanted);
         assert_eq!(
-            clock(source, wanted),
+            configs.map(ClockConfigs::as_raw),
             Ok(word),
             "source {source}, clock {wanted}"
         );
@@ -63,7 +64,7 @@ fn commands() {
             mode: settings.mode as u8,
             pcs: settings.pcs as u8,
         });
-        assert_eq!(command(&settings).ok(), word.ok(), "{settings:?}");
+        assert_eq!(settings.transaction().ok(), word.ok(), "{settings:?}");
         random.cases.count();
     }
 }

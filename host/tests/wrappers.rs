@@ -1,10 +1,10 @@
 //! The scope document's examples, limits and refusals.
 
+mod common;
+
+use common::command::Command;
 use lpspi_host::BitOrder::{Lsb, Msb};
-use lpspi_host::{
-    clock, command, pack_u8, pack_words_u8, raw, unpack_u8, unpack_words_u8, BitOrder, Command,
-    Direction, Error,
-};
+use lpspi_host::*;
 
 /// A value that no call below gives.
 const FOUND: u32 = 0xDEAD_BEEF;
@@ -16,11 +16,30 @@ fn sized(frame_size: u32) -> Command {
     }
 }
 
+/// The word of a transaction, which must be the one that the C function gives.
+fn command(command: &Command) -> Result<u32, Error> {
+    let mut word = FOUND;
+    let number = command.raw(&mut word);
+    let transaction = command.transaction();
+    let given = transaction.map_or_else(|error| (error.number(), FOUND), |word| (0, word));
+    assert_eq!((number, word), given, "{command:?}");
+    transaction
+}
+
+/// The word of a clock.
+fn clock(source: u32, wanted: u32) -> Result<u32, Error> {
+    ClockConfigs::from_hz(source, wanted).map(ClockConfigs::as_raw)
+}
+
 #[test]
 fn error_numbers() {
-    assert_eq!(Error::FrameSize.number(), 1);
-    assert_eq!(Error::Fifo(Direction::Rx).number(), 2);
-    assert_eq!(Error::Fifo(Direction::Tx).number(), 3);
+    for (error, number) in [
+        (LpspiError::FrameSize, 1),
+        (LpspiError::Fifo(Direction::Rx), 2),
+        (LpspiError::Fifo(Direction::Tx), 3),
+    ] {
+        assert_eq!([error.number(), Error::from(error).number()], [number; 2]);
+    }
     assert_eq!(Error::Stopped.number(), 4);
     assert_eq!(Error::Limits.number(), 5);
     assert_eq!(Error::ZeroClock.number(), 6);
@@ -50,7 +69,7 @@ fn word_examples() {
 fn no_bytes_give_zero() {
     for order in BitOrder::ALL {
         let mut word = FOUND;
-        assert_eq!(raw::pack_u8(order, &[], &mut word), 0);
+        assert_eq!(raw::pack_u8(order.is_lsb(), &[], &mut word), 0);
         assert_eq!(word, 0);
     }
 }
@@ -115,12 +134,10 @@ fn more_than_four_bytes_are_refused() {
     for order in BitOrder::ALL {
         for len in [5, 6, 8, 100] {
             let mut word = FOUND;
-            assert_eq!(raw::pack_u8(order, &vec![0x5A; len], &mut word), 8);
+            let bytes = vec![0x5A; len];
+            assert_eq!(raw::pack_u8(order.is_lsb(), &bytes, &mut word), 8);
             assert_eq!(word, FOUND);
-            assert_eq!(
-                pack_u8(order, &vec![0x5A; len]),
-                Err(Error::TooManyElements)
-            );
+            assert_eq!(pack_u8(order, &bytes), Err(Error::TooManyElements));
         }
     }
 }
@@ -135,7 +152,8 @@ fn unpacking_more_than_four_is_refused() {
                 Err(Error::TooManyElements)
             );
             assert_eq!(bytes, [1, 2, 3, 4, 5, 6]);
-            assert_eq!(raw::unpack_u8(order, FOUND, count, &mut bytes), 8);
+            let number = raw::unpack_u8(order.is_lsb(), FOUND, count, &mut bytes);
+            assert_eq!(number, 8);
             assert_eq!(bytes, [1, 2, 3, 4, 5, 6]);
         }
     }
@@ -144,7 +162,8 @@ fn unpacking_more_than_four_is_refused() {
 #[test]
 fn command_examples() {
     for frame_size in [7, 33, 4065, 4097] {
-        assert_eq!(command(&sized(frame_size)), Err(Error::FrameSize));
+        let refused = Err(LpspiError::FrameSize.into());
+        assert_eq!(command(&sized(frame_size)), refused);
     }
     assert_eq!(command(&sized(8)), Ok(0x007));
     assert_eq!(command(&sized(4096)), Ok(0xFFF));
@@ -165,7 +184,7 @@ fn frame_size_limits() {
     // 4104 is 8 in its low 12 bits.
     for refused in [0, 1, 7, 33, 65, 4033, 4065, 4097, 4098, 4104, 65535] {
         let mut word = FOUND;
-        assert_eq!(raw::command(&sized(refused), &mut word), 1);
+        assert_eq!(sized(refused).raw(&mut word), 1);
         assert_eq!(word, FOUND);
     }
 }
@@ -207,7 +226,7 @@ fn refused_frame_size_with_all_settings_keeps_the_word() {
         pcs: u32::MAX,
     };
     let mut word = FOUND;
-    assert_eq!(raw::command(&all, &mut word), 1);
+    assert_eq!(all.raw(&mut word), 1);
     assert_eq!(word, FOUND);
     let accepted = Command {
         frame_size: 32,
@@ -243,4 +262,64 @@ fn zero_clocks_are_refused() {
         assert_eq!(word, FOUND);
         assert_eq!(clock(source, wanted), Err(Error::ZeroClock));
     }
+}
+
+/// The fields of the word, and each SPI mode and chip select by its number.
+#[test]
+fn fields_and_numbers() {
+    let configs = ClockConfigs {
+        sckpcs: 0x12,
+        pcssck: 0x34,
+        dbt: 0x56,
+        sckdiv: 0x78,
+    };
+    assert_eq!(configs.as_raw(), 0x1234_5678);
+    assert_eq!(ClockConfigs::from_raw(0x1234_5678), configs);
+
+    let phases = [
+        Phase::CaptureOnFirstTransition,
+        Phase::CaptureOnSecondTransition,
+    ];
+    let modes = [MODE_0, MODE_1, MODE_2, MODE_3];
+    let selects = [Pcs::Pcs0, Pcs::Pcs1, Pcs::Pcs2, Pcs::Pcs3];
+    for (number, (mode, pcs)) in (0..).zip(modes.into_iter().zip(selects)) {
+        assert_eq!([mode.number(), pcs.number()], [number; 2]);
+        assert_eq!(mode.polarity == Polarity::IdleHigh, number >= 2);
+        assert_eq!(mode.phase, phases[number as usize % 2]);
+        for past in [number, number + 4, number + 0xFFFF_FFFC] {
+            assert_eq!((Mode::of_number(past), Pcs::of_number(past)), (mode, pcs));
+        }
+    }
+    assert_eq!((Mode::default(), Pcs::default()), (MODE_0, Pcs::Pcs0));
+}
+
+/// The flags are at their bits, and those without a name are dropped or kept.
+#[test]
+fn status_flags() {
+    let flags = [
+        (Status::BUSY, 24),
+        (Status::DATA_MATCH, 13),
+        (Status::RECEIVE_ERROR, 12),
+        (Status::TRANSMIT_ERROR, 11),
+        (Status::TRANSFER_COMPLETE, 10),
+        (Status::FRAME_COMPLETE, 9),
+        (Status::WORD_COMPLETE, 8),
+        (Status::RECEIVE_DATA, 1),
+        (Status::TRANSMIT_DATA, 0),
+    ];
+    let mut all = Status::empty();
+    for (flag, bit) in flags {
+        assert_eq!(flag.bits(), 1 << bit);
+        assert!(!all.intersects(flag));
+        all = all | flag;
+    }
+    assert_eq!(all, Status::all());
+    assert_eq!(Status::from_bits_truncate(u32::MAX), all);
+    assert_eq!(Status::from_bits_retain(u32::MAX).bits(), u32::MAX);
+
+    let errors = Status::TRANSMIT_ERROR | Status::RECEIVE_ERROR;
+    let found = Status::BUSY | Status::RECEIVE_ERROR;
+    assert!(found.intersects(errors) && !found.contains(errors));
+    assert!(all.contains(errors) && found.contains(Status::BUSY));
+    assert_eq!(found & errors, Status::RECEIVE_ERROR);
 }

@@ -1,7 +1,7 @@
 //! Trials of the port: lists of events on the bus.
 
 use crate::timing::wanted;
-use lpspi_host::{trial, Board, Driver, Trial};
+use lpspi_host::{Board, Event, Lpspi, Trial, trial};
 use std::hint::black_box;
 use std::time::{Duration, Instant};
 
@@ -10,9 +10,13 @@ const WORDS: usize = BYTES / 4;
 const EXPONENT: usize = 4;
 const ROUNDS: u32 = 30;
 
-// Events.
-const STEPS: [u8; 4] = [0, 2, 1, 3];
-const CLOCK: u8 = 4;
+/// Turns of both ends.
+const STEPS: [Event; 4] = [
+    Event::GateStep,
+    Event::AntennaStep,
+    Event::GateBusyStep,
+    Event::AntennaBusyStep,
+];
 
 pub fn time() {
     println!(
@@ -28,16 +32,16 @@ pub fn time() {
 
 /// A list of so many events that keeps both ends going: turns, with clocks at even
 /// distances, and a last part for the flushes.
-fn list(events: usize) -> Vec<u8> {
+fn list(events: usize) -> Vec<Event> {
     let distance = events / (WORDS + 2);
     let event = |place: usize| match place % distance {
-        0 if place > 0 => CLOCK,
+        0 if place > 0 => Event::Clock,
         _ => STEPS[place % 4],
     };
     (0..events).map(event).collect()
 }
 
-fn job(name: &str, events: &[u8]) {
+fn job(name: &str, events: &[Event]) {
     if !wanted(name) {
         return;
     }
@@ -60,7 +64,7 @@ fn job(name: &str, events: &[u8]) {
     println!("{name:<40} {:>9} {ms:>9.3} {rate:>9.1}", events.len());
 }
 
-fn run(reads: &mut [Vec<u8>; 2], writes: &[Vec<u8>; 2], events: &[u8]) -> Trial {
+fn run(reads: &mut [Vec<u8>; 2], writes: &[Vec<u8>; 2], events: &[Event]) -> Trial {
     let [gate, antenna] = reads;
     let (gate, antenna) = (board(gate, &writes[0]), board(antenna, &writes[1]));
     trial(gate, antenna, events).expect("the boards make a pair")
@@ -68,7 +72,7 @@ fn run(reads: &mut [Vec<u8>; 2], writes: &[Vec<u8>; 2], events: &[u8]) -> Trial 
 
 fn board<'a>(read: &'a mut [u8], write: &'a [u8]) -> Board<'a, u8> {
     Board {
-        driver: Driver::default(),
+        driver: Lpspi::default(),
         in_place: false,
         exponent: EXPONENT,
         read,

@@ -1,7 +1,7 @@
 //! `buslog`: the functions, and the programs.
 
 use crate::scripts;
-use crate::timing::{wanted, Effort, Times};
+use crate::timing::{Effort, Times, wanted};
 use std::env;
 use std::hint::black_box;
 use std::io::{Read, Write};

@@ -1,8 +1,9 @@
 //! Runs over a script, on the same buffers for both sides.
 
 use crate::scripts;
-use crate::timing::{wanted, Effort, Times};
-use lpspi_host::{exchange, exchange_separate, flush, read_no_write, write_no_read, Driver, Run};
+use crate::timing::{Effort, Times, wanted};
+use lpspi_host::raw::Transfer as Kind;
+use lpspi_host::{Lpspi, Run, exchange, exchange_separate, flush, read_no_write, write_no_read};
 use original::{Call, Outcome, Transfer};
 use std::cell::RefCell;
 use std::fmt::Debug;
@@ -36,22 +37,24 @@ fn transfers() {
 
     let ready = scripts::exchange(WORDS, WORDS);
     let by_twos = scripts::exchange(WORDS, 2);
-    transfer("512/512 bytes, all ready", Kind::Separate, &bytes, &ready);
-    transfer("512/512 bytes, by twos", Kind::Separate, &bytes, &by_twos);
-    transfer("256/256 halves, all ready", Kind::Separate, &halves, &ready);
-    transfer("128/128 words, all ready", Kind::Separate, &words, &ready);
-    transfer("128/128 words, by twos", Kind::Separate, &words, &by_twos);
-    transfer("512 bytes in place, ready", Kind::InPlace, &bytes, &ready);
-    transfer("128 words in place, ready", Kind::InPlace, &words, &ready);
+    let kind = Kind::ExchangeSeparate;
+    transfer("512/512 bytes, all ready", kind, &bytes, &ready);
+    transfer("512/512 bytes, by twos", kind, &bytes, &by_twos);
+    transfer("256/256 halves, all ready", kind, &halves, &ready);
+    transfer("128/128 words, all ready", kind, &words, &ready);
+    transfer("128/128 words, by twos", kind, &words, &by_twos);
+    let kind = Kind::Exchange;
+    transfer("512 bytes in place, ready", kind, &bytes, &ready);
+    transfer("128 words in place, ready", kind, &words, &ready);
 
-    let ready = scripts::write(WORDS);
-    transfer("512 bytes written, ready", Kind::Write, &bytes, &ready);
-    transfer("128 words written, ready", Kind::Write, &words, &ready);
+    let (kind, ready) = (Kind::WriteNoRead, scripts::write(WORDS));
+    transfer("512 bytes written, ready", kind, &bytes, &ready);
+    transfer("128 words written, ready", kind, &words, &ready);
 
-    let ready = scripts::read(WORDS);
-    transfer("512 bytes read, ready", Kind::Read, &bytes, &ready);
-    transfer("256 halves read, ready", Kind::Read, &halves, &ready);
-    transfer("128 words read, ready", Kind::Read, &words, &ready);
+    let (kind, ready) = (Kind::ReadNoWrite, scripts::read(WORDS));
+    transfer("512 bytes read, ready", kind, &bytes, &ready);
+    transfer("256 halves read, ready", kind, &halves, &ready);
+    transfer("128 words read, ready", kind, &words, &ready);
 }
 
 fn flushes() {
@@ -65,15 +68,16 @@ fn flushes() {
 
 /// Recoveries after a receive error. They end, or stop at the wait for MEN.
 fn recoveries() {
+    let kind = Kind::ExchangeSeparate;
     let ended = scripts::recovery(0);
     let stopped = &ended[..scripts::READS_TO_WAIT];
-    transfer("error, recovery", Kind::Separate, &[0u8], &ended);
-    transfer("error, recovery stopped", Kind::Separate, &[0u8], stopped);
+    transfer("error, recovery", kind, &[0u8], &ended);
+    transfer("error, recovery stopped", kind, &[0u8], stopped);
 
     let ended = scripts::recovery(7_900);
     let stopped = &ended[..scripts::READS_TO_WAIT + 7_900];
-    transfer("the same, 7,900 waits", Kind::Separate, &[0u8], &ended);
-    transfer("the same, stopped", Kind::Separate, &[0u8], stopped);
+    transfer("the same, 7,900 waits", kind, &[0u8], &ended);
+    transfer("the same, stopped", kind, &[0u8], stopped);
 }
 
 /// Result number, accesses and answers.
@@ -87,16 +91,7 @@ fn of_port(run: Run) -> Counts {
     (Some(run.number()), run.accesses, run.answers)
 }
 
-#[derive(Clone, Copy)]
-enum Kind {
-    /// Receives as many elements as are written.
-    Separate,
-    InPlace,
-    Write,
-    Read,
-}
-
-/// A transfer of `elements`, or into as many places.
+/// A transfer of `elements`, into as many places, or both.
 fn transfer<W>(name: &str, kind: Kind, elements: &[W], script: &[u32])
 where
     W: original::Element + lpspi_host::Element + Debug + PartialEq,
@@ -109,13 +104,13 @@ where
             let write = black_box(elements);
             let (driver, budget) = black_box((original::Driver::default(), BUDGET));
             let transfer = match black_box(kind) {
-                Kind::Separate => Transfer::ExchangeSeparate {
+                Kind::ExchangeSeparate => Transfer::ExchangeSeparate {
                     read: buffer,
                     write,
                 },
-                Kind::InPlace => Transfer::Exchange(buffer),
-                Kind::Write => Transfer::WriteNoRead(write),
-                Kind::Read => Transfer::ReadNoWrite(buffer),
+                Kind::Exchange => Transfer::Exchange(buffer),
+                Kind::WriteNoRead => Transfer::WriteNoRead(write),
+                Kind::ReadNoWrite => Transfer::ReadNoWrite(buffer),
             };
             of_original(original::run(
                 W::call(transfer),
@@ -127,12 +122,14 @@ where
         },
         &|buffer, script, log| {
             let write = black_box(elements);
-            let (driver, budget) = black_box((Driver::default(), BUDGET));
+            let (driver, budget) = black_box((Lpspi::default(), BUDGET));
             of_port(match black_box(kind) {
-                Kind::Separate => exchange_separate(driver, buffer, write, budget, script, log),
-                Kind::InPlace => exchange(driver, buffer, budget, script, log),
-                Kind::Write => write_no_read(driver, write, budget, script, log),
-                Kind::Read => read_no_write(driver, buffer, budget, script, log),
+                Kind::ExchangeSeparate => {
+                    exchange_separate(driver, buffer, write, budget, script, log)
+                }
+                Kind::Exchange => exchange(driver, buffer, budget, script, log),
+                Kind::WriteNoRead => write_no_read(driver, write, budget, script, log),
+                Kind::ReadNoWrite => read_no_write(driver, buffer, budget, script, log),
             })
         },
     );
@@ -148,7 +145,7 @@ fn flushing(name: &str, script: &[u32]) {
             of_original(original::run(Call::Flush, driver, budget, script, log))
         },
         &|_, script, log| {
-            let (driver, budget) = black_box((Driver::default(), BUDGET));
+            let (driver, budget) = black_box((Lpspi::default(), BUDGET));
             of_port(flush(driver, budget, script, log))
         },
     );

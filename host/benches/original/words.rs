@@ -1,7 +1,7 @@
 //! Packing, clocks and commands. Each side is one call that is not inlined.
 
-use crate::timing::{wanted, Effort, Times};
-use lpspi_host::{raw, BitOrder, Command};
+use crate::timing::{Effort, Times, wanted};
+use lpspi_host::{BitOrder, raw};
 use std::hint::black_box;
 
 const BYTES: usize = 512;
@@ -63,7 +63,7 @@ fn pack(order: BitOrder) {
         },
         || {
             raw::pack_words_u8(
-                black_box(order),
+                black_box(order.is_lsb()),
                 black_box(&bytes),
                 black_box(BYTES),
                 black_box(&mut right),
@@ -91,7 +91,7 @@ fn unpack(order: BitOrder) {
         },
         || {
             raw::unpack_words_u8(
-                black_box(order),
+                black_box(order.is_lsb()),
                 black_box(&words),
                 black_box(BYTES),
                 black_box(&mut right),
@@ -116,18 +116,7 @@ fn clock() {
 }
 
 fn command() {
-    let port = Command {
-        frame_size: 40,
-        byte_swap: true,
-        bit_order: BitOrder::Lsb,
-        receive_mask: true,
-        transmit_mask: false,
-        continuous: true,
-        continuing: false,
-        mode: 3,
-        pcs: 2,
-    };
-    let original = original::Command {
+    let settings = original::Command {
         frame_size: 40,
         byte_swap: true,
         lsb: true,
@@ -142,9 +131,21 @@ fn command() {
     job(
         "command word, new and 8 setters",
         SINGLE_WORDS,
-        || left = black_box(original::command_word(black_box(&original))),
+        || left = black_box(original::command_word(black_box(&settings))),
         || {
-            raw::command(black_box(&port), black_box(&mut right));
+            let settings = black_box(&settings);
+            raw::command(
+                settings.frame_size.into(),
+                settings.byte_swap,
+                settings.lsb,
+                settings.receive_mask,
+                settings.transmit_mask,
+                settings.continuous,
+                settings.continuing,
+                settings.mode.into(),
+                settings.pcs.into(),
+                black_box(&mut right),
+            );
         },
     );
     assert_eq!(left, Ok(right), "both sides give the same command word");

@@ -2,7 +2,7 @@
 
 use super::registers::{CR, FSR, MEN, PARAM, RDR, SR, TCR, TDR, WRITE};
 use super::run::{Cause, Left};
-use super::transfer::{Element, Kind, Transfer};
+use super::transfer::{Element, Kind, Sides, Transfer};
 
 /// The accesses of a call: `R` a read, `W` a write, `M` reads of CR until MEN is 0.
 pub type Table = &'static str;
@@ -167,11 +167,11 @@ impl Branch {
         if short_words {
             all.extend(sides.iter().map(|side| ShortWord(*side)));
         }
-        if kind == Kind::Separate {
+        if kind == Kind::ExchangeSeparate {
             all.extend([ReadLonger, WriteLonger, SameLength]);
             all.extend([Dummies { only: true }, Dropped { all: true }]);
         }
-        if kind == Kind::Separate && short_words {
+        if kind == Kind::ExchangeSeparate && short_words {
             all.extend([Dummies { only: false }, Dropped { all: false }]);
         }
         all

@@ -1,7 +1,7 @@
 //! What `buslog` reads and prints.
 
 use super::document::shown;
-use super::run::{listing, Left, EXAMPLE_LISTING, MAX_BUDGET};
+use super::run::{EXAMPLE_LISTING, Left, MAX_BUDGET, listing};
 use lpspi_host::raw;
 use std::fmt::{self, Debug, Formatter, UpperHex};
 

@@ -6,16 +6,20 @@
 pub mod branches;
 pub mod buslog;
 pub mod cases;
+pub mod command;
 pub mod document;
+pub mod function;
 pub mod program;
 pub mod random_runs;
+pub mod reference;
 pub mod registers;
 pub mod run;
 pub mod transfer;
 pub mod walk;
 
 use cases::Cases;
-use lpspi_host::{BitOrder, Command};
+use command::Command;
+use lpspi_host::BitOrder;
 use std::sync::OnceLock;
 use std::time::{SystemTime, UNIX_EPOCH};
 

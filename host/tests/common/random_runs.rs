@@ -4,9 +4,9 @@ use super::branches::{Branch, FlushBranch};
 use super::cases::Tally;
 use super::registers::{BUSY, CR, ERRORS, FSR, PARAM, RXCOUNT, SR, TXCOUNT, TXFIFO, WRITE};
 use super::run::{Left, Limits, MAX_BUDGET};
-use super::transfer::{port_flush, Element, Kind, Transfer};
-use super::{walk, Random};
-use lpspi_host::Driver;
+use super::transfer::{Element, Kind, Transfer, port_flush};
+use super::{Random, walk};
+use lpspi_host::{CcrCache, Lpspi, Mode, Pcs};
 
 /// How often, in 256, an answer is of each kind.
 pub struct Mood {
@@ -113,13 +113,15 @@ pub fn random_limits<W>(
     limits
 }
 
-pub fn random_driver(random: &mut Random) -> Driver {
-    Driver {
+pub fn random_driver(random: &mut Random) -> Lpspi {
+    Lpspi {
         bit_order: random.order(),
-        mode: random.any_size(),
-        pcs: random.any_size(),
-        dbt: random.word() as u8,
-        sckdiv: random.word() as u8,
+        mode: Mode::of_number(random.any_size()),
+        pcs: Pcs::of_number(random.any_size()),
+        ccr_cache: CcrCache {
+            dbt: random.word() as u8,
+            sckdiv: random.word() as u8,
+        },
     }
 }
 
@@ -142,8 +144,8 @@ pub fn transfers<W: Element>(
         };
         let (read, write) = (length(), length());
         let lengths = match kind {
-            Kind::Separate if random.chance(4) => (0, 0),
-            Kind::Separate => (read, write),
+            Kind::ExchangeSeparate if random.chance(4) => (0, 0),
+            Kind::ExchangeSeparate => (read, write),
             _ => (read, 0),
         };
         let driver = random_driver(random);
@@ -164,7 +166,7 @@ pub fn transfers<W: Element>(
 }
 
 /// Compares random flushes. Every branch must be reached.
-pub fn flushes(random: &mut Random, runs: usize, other: impl Fn(Driver, &Limits) -> Left<u8>) {
+pub fn flushes(random: &mut Random, runs: usize, other: impl Fn(Lpspi, &Limits) -> Left<u8>) {
     let mut tally = Tally::new(FlushBranch::all());
     for _ in 0..runs {
         let driver = random_driver(random);

@@ -1,7 +1,8 @@
 //! Transfers of the port, and flushes.
 
-use super::run::{found, Left, Limits};
-use lpspi_host::{exchange, exchange_separate, flush, read_no_write, write_no_read, Driver};
+use super::run::{Left, Limits, found};
+pub use lpspi_host::raw::Transfer as Kind;
+use lpspi_host::{Lpspi, exchange, exchange_separate, flush, read_no_write, write_no_read};
 use std::fmt::Debug;
 
 /// An element of a buffer.
@@ -28,38 +29,36 @@ impl Element for u32 {
     }
 }
 
-/// Which transfer: `exchange_separate`, `exchange`, `write_no_read`, `read_no_write`.
-#[derive(Debug, Clone, Copy, PartialEq, Eq)]
-pub enum Kind {
-    Separate,
-    InPlace,
-    Write,
-    Read,
-}
+/// What takes part in a transfer.
+pub trait Sides {
+    fn sends(self) -> bool;
 
-impl Kind {
-    pub const ALL: [Self; 4] = [Self::Separate, Self::InPlace, Self::Write, Self::Read];
-
-    pub fn sends(self) -> bool {
-        self != Self::Read
-    }
-
-    pub fn receives(self) -> bool {
-        self != Self::Write
-    }
+    fn receives(self) -> bool;
 
     /// Sides that take part: one or two.
-    pub fn sides(self) -> usize {
+    fn sides(self) -> usize;
+}
+
+impl Sides for Kind {
+    fn sends(self) -> bool {
+        self != Self::ReadNoWrite
+    }
+
+    fn receives(self) -> bool {
+        self != Self::WriteNoRead
+    }
+
+    fn sides(self) -> usize {
         usize::from(self.sends()) + usize::from(self.receives())
     }
 }
 
-/// A transfer. `write` has the buffer of [`Kind::Write`], `read` that of
-/// [`Kind::InPlace`] and [`Kind::Read`].
+/// A transfer. `write` has the buffer of [`Kind::WriteNoRead`], `read` that of
+/// [`Kind::Exchange`] and [`Kind::ReadNoWrite`].
 #[derive(Debug)]
 pub struct Transfer<W> {
     pub kind: Kind,
-    pub driver: Driver,
+    pub driver: Lpspi,
     pub read: Vec<W>,
     pub write: Vec<W>,
 }
@@ -75,15 +74,15 @@ impl<W: Element> Transfer<W> {
     /// greater. `word` gives the elements.
     pub fn new(
         kind: Kind,
-        driver: Driver,
+        driver: Lpspi,
         (read, write): (usize, usize),
         mut word: impl FnMut() -> u32,
     ) -> Self {
         let longer = read.max(write);
         let (read, write) = match kind {
-            Kind::Separate => (read, write),
-            Kind::Write => (0, longer),
-            Kind::InPlace | Kind::Read => (longer, 0),
+            Kind::ExchangeSeparate => (read, write),
+            Kind::WriteNoRead => (0, longer),
+            Kind::Exchange | Kind::ReadNoWrite => (longer, 0),
         };
         let mut buffer = |len| (0..len).map(|_| W::of(word())).collect();
         Self {
@@ -119,17 +118,17 @@ impl<W: Element> Transfer<W> {
         let (mut read, mut log) = (self.read.clone(), found(limits.log_len));
         let (r, l) = (&mut read[..], &mut log[..]);
         let run = match self.kind {
-            Kind::Separate => exchange_separate(driver, r, write, budget, script, l),
-            Kind::InPlace => exchange(driver, r, budget, script, l),
-            Kind::Write => write_no_read(driver, write, budget, script, l),
-            Kind::Read => read_no_write(driver, r, budget, script, l),
+            Kind::ExchangeSeparate => exchange_separate(driver, r, write, budget, script, l),
+            Kind::Exchange => exchange(driver, r, budget, script, l),
+            Kind::WriteNoRead => write_no_read(driver, write, budget, script, l),
+            Kind::ReadNoWrite => read_no_write(driver, r, budget, script, l),
         };
         Left::new(run, read, log)
     }
 }
 
 /// What a flush of the port leaves.
-pub fn port_flush(driver: Driver, limits: &Limits) -> Left<u8> {
+pub fn port_flush(driver: Lpspi, limits: &Limits) -> Left<u8> {
     let mut log = found(limits.log_len);
     let run = flush(driver, limits.budget, &limits.script, &mut log);
     Left::new(run, vec![], log)

@@ -1,12 +1,12 @@
 //! Reads the branches of a run off its inputs and its log, by the rules of the scope
 //! document.
 
-use super::branches::{restored, Along, Branch, FlushBranch, Turn, RECOVERY};
+use super::branches::{Along, Branch, FlushBranch, RECOVERY, Turn, restored};
 use super::registers::{
-    BUSY, ERRORS, FSR, PARAM, RXCOUNT, RX_ERROR, SR, TXCOUNT, TXFIFO, TX_ERROR,
+    BUSY, ERRORS, FSR, PARAM, RX_ERROR, RXCOUNT, SR, TX_ERROR, TXCOUNT, TXFIFO,
 };
 use super::run::{Left, Limits};
-use super::transfer::{Element, Kind, Transfer};
+use super::transfer::{Element, Kind, Sides, Transfer};
 use std::cmp::Ordering;
 use std::collections::BTreeSet;
 
@@ -112,7 +112,7 @@ impl<W: Element> Walk<'_, W> {
         if end < past {
             self.reached.insert(Branch::ShortWord(turn));
         }
-        if self.transfer.kind != Kind::Separate {
+        if self.transfer.kind != Kind::ExchangeSeparate {
             return;
         }
         self.reached.insert(match read.len().cmp(&write.len()) {

@@ -4,14 +4,15 @@
 mod branches;
 mod lists;
 
+use crate::common::Random;
 use crate::common::cases::Tally;
 use crate::common::transfer::{Element, Transfer};
-use crate::common::Random;
-use branches::{reached, Branch};
+use crate::port::driver_number;
+use branches::{Branch, reached};
 use lists::{Chooser, Manner};
-use lpspi_host::{raw, BitOrder};
-use original::bus::{Board, Bus, Event, Side, STATE};
+use lpspi_host::raw;
 use original::Driver;
+use original::bus::{Board, Bus, Event, STATE, Side};
 use std::collections::BTreeSet;
 use std::fmt::Debug;
 
@@ -113,11 +114,15 @@ impl<W: Both> Left<W> {
         let mut buffers = [gate.read.clone(), antenna.read.clone()];
         let [gate_read, antenna_read] = &mut buffers;
         let number = raw::trial(
-            [gate, antenna].map(|board| driver(board.driver).number()),
+            driver_number(gate.driver),
+            driver_number(antenna.driver),
             u32::from(gate.in_place) | u32::from(antenna.in_place) << 1,
-            [gate.exponent, antenna.exponent],
-            (gate_read, &gate.write),
-            (antenna_read, &antenna.write),
+            gate.exponent,
+            antenna.exponent,
+            gate_read,
+            &gate.write,
+            antenna_read,
+            &antenna.write,
             events,
             &mut state,
         );
@@ -140,16 +145,6 @@ impl<W: Both> Left<W> {
             state,
             buffers: SIDES.map(|side| bus.buffer(side).to_vec()),
         }
-    }
-}
-
-fn driver(driver: Driver) -> lpspi_host::Driver {
-    lpspi_host::Driver {
-        bit_order: BitOrder::ALL[usize::from(driver.lsb)],
-        mode: driver.mode.into(),
-        pcs: driver.pcs.into(),
-        dbt: driver.dbt,
-        sckdiv: driver.sckdiv,
     }
 }
 

@@ -1,6 +1,6 @@
 //! The other calls of the original.
 
-use crate::{listed, SET};
+use crate::{SET, listed};
 use original::{Call, ClockConfigs, Direction, Driver, Failure, FifoStatus, Value};
 
 /// Every call that is neither a transfer nor a recovery.

@@ -1,8 +1,8 @@
 //! What docs/DIFFERENCES.md says of the Rust, at the inputs given there.
 
 use crate::listed;
-use original::{pack_word, unpack_word};
 use original::{Call, Direction, Driver, Element, Failure, Transfer, Value};
+use original::{pack_word, unpack_word};
 use std::panic::catch_unwind;
 
 const START: Driver = Driver {

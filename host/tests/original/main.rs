@@ -12,7 +12,7 @@ mod port;
 mod transfers;
 
 use common::run::{found, listing};
-use original::{run, Call, Driver, Outcome};
+use original::{Call, Driver, Outcome, run};
 
 /// A driver none of whose settings is the starting one.
 const SET: Driver = Driver {

@@ -1,7 +1,7 @@
 //! Transfers and recoveries of the original.
 
 use crate::common::run::{EXAMPLE_LISTING, EXAMPLE_SCRIPT};
-use crate::{listed, SET};
+use crate::{SET, listed};
 use original::{Call, Driver, Element, Transfer, Value};
 
 #[test]

@@ -1,8 +1,8 @@
 //! What may occur in a list of events.
 
 use super::SIDES;
-use original::bus::{Bus, End, Side};
 use original::Element;
+use original::bus::{Bus, End, Side};
 use std::cmp::Ordering;
 use std::collections::BTreeSet;
 

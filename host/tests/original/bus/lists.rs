@@ -1,9 +1,9 @@
 //! Random boards, and lists of events for them.
 
-use crate::common::transfer::{Element, Transfer};
 use crate::common::Random;
-use original::bus::{Board, Bus, Event, Side};
+use crate::common::transfer::{Element, Transfer};
 use original::Driver;
+use original::bus::{Board, Bus, Event, Side};
 
 /// How the events are chosen.
 #[derive(Debug, Clone, Copy, PartialEq, Eq)]

@@ -2,9 +2,9 @@
 
 use super::compare;
 use super::input::Input;
-use crate::common::buslog::{Text, BAD, EXAMPLE_INPUT};
-use crate::common::cases::{Cases, Tally};
 use crate::common::Random;
+use crate::common::buslog::{BAD, EXAMPLE_INPUT, Text};
+use crate::common::cases::{Cases, Tally};
 use std::collections::BTreeSet;
 
 /// Inputs of each change.

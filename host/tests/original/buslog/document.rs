@@ -1,7 +1,7 @@
 //! The page for technicians.
 
 use super::compare;
-use crate::common::buslog::{documented, Text};
+use crate::common::buslog::{Text, documented};
 use crate::common::cases::Cases;
 
 /// Both sides print the listings of docs/BUSLOG.md.

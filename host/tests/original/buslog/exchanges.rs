@@ -3,10 +3,10 @@
 use super::compare;
 use super::input::{Exchange, Shown};
 use crate::common::branches::Branch;
-use crate::common::buslog::{example_output, largest, Text, EXAMPLE_INPUT, LONGEST};
+use crate::common::buslog::{EXAMPLE_INPUT, LONGEST, Text, example_output, largest};
 use crate::common::cases::{Cases, Tally};
 use crate::common::transfer::{Element, Kind};
-use crate::common::{walk, Random};
+use crate::common::{Random, walk};
 use std::fmt::UpperHex;
 
 /// Inputs of each width.
@@ -43,7 +43,7 @@ fn inputs<W: Element + UpperHex>(test: &'static str) {
 
 /// The branches of an exchange. 512 bytes are a frame: number 1 takes wider elements.
 fn branches<W: Element>() -> impl Iterator<Item = Branch> {
-    let all = Branch::all::<W>(Kind::Separate).into_iter();
+    let all = Branch::all::<W>(Kind::ExchangeSeparate).into_iter();
     all.filter(|branch| size_of::<W>() > 1 || *branch != Branch::Ended(1))
 }
 

@@ -2,9 +2,9 @@
 
 use super::compare;
 use super::input::Input;
-use crate::common::buslog::{port, Text, BAD};
-use crate::common::cases::Tally;
 use crate::common::Random;
+use crate::common::buslog::{BAD, Text, port};
+use crate::common::cases::Tally;
 use std::collections::BTreeSet;
 
 /// Inputs of each fault.

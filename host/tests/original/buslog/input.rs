@@ -1,11 +1,11 @@
 //! Good inputs in every spelling.
 
-use crate::common::buslog::{printed, MOST_ANSWERS, MOST_ELEMENTS};
+use crate::common::Random;
+use crate::common::buslog::{MOST_ANSWERS, MOST_ELEMENTS, printed};
 use crate::common::random_runs::random_limits;
 use crate::common::run::{Left, Limits, MAX_BUDGET};
 use crate::common::transfer::{Element, Kind, Transfer};
-use crate::common::Random;
-use lpspi_host::Driver;
+use lpspi_host::Lpspi;
 use std::collections::BTreeSet;
 use std::fmt::UpperHex;
 
@@ -43,11 +43,12 @@ pub struct Exchange<W> {
 impl<W: Element + UpperHex> Exchange<W> {
     pub fn random(random: &mut Random) -> Self {
         let lengths = (random_length(random), random_length(random));
-        let driver = Driver {
+        let driver = Lpspi {
             bit_order: random.order(),
-            ..Driver::default()
+            ..Lpspi::default()
         };
-        let mut transfer = Transfer::new(Kind::Separate, driver, lengths, || random.word());
+        let kind = Kind::ExchangeSeparate;
+        let mut transfer = Transfer::new(kind, driver, lengths, || random.word());
         transfer.read.fill(W::of(0));
         let limits = random_limits(random, transfer.words(), |limits| transfer.port(limits));
         let answers = match random.chance(4) {

@@ -7,7 +7,7 @@ mod faults;
 mod input;
 mod spoil;
 
-use crate::common::buslog::{port, Text};
+use crate::common::buslog::{Text, port};
 use crate::common::cases::Cases;
 
 /// Compares both sides on an input, and gives what the port prints.

@@ -2,8 +2,8 @@
 
 use super::faults::{Fault, Foreign};
 use super::input::Input;
-use crate::common::buslog::{LONGEST, MOST_ANSWERS, MOST_ELEMENTS};
 use crate::common::Random;
+use crate::common::buslog::{LONGEST, MOST_ANSWERS, MOST_ELEMENTS};
 
 impl Foreign {
     fn bytes(self, random: &mut Random) -> Vec<u8> {

@@ -2,13 +2,13 @@
 //! and limits.
 
 use super::script::{any_word, transfer_script};
-use super::{judged_transfer, stops, Element, DRIVER, REFUSED};
+use super::{DRIVER, Element, REFUSED, judged_transfer, stops};
 use crate::common::branches::Branch;
 use crate::common::cases::{Cases, Tally};
 use crate::common::run::{Left, Limits, MAX_BUDGET};
-use crate::common::transfer::{Kind, Transfer};
+use crate::common::transfer::{Kind, Sides, Transfer};
 use crate::common::walk;
-use lpspi_host::{BitOrder, Driver};
+use lpspi_host::{BitOrder, Lpspi};
 
 /// The polls of a transfer in which each side moves up to `most` words in its turn.
 fn bursts<W: Element>(transfer: &Transfer<W>, most: usize) -> String {
@@ -38,7 +38,7 @@ impl Directed<'_> {
     fn transfer<W: Element>(&self, bit_order: BitOrder, lengths: (usize, usize)) -> Transfer<W> {
         let mut places = 0..;
         let word = || any_word(places.next().expect("no end"));
-        let driver = Driver {
+        let driver = Lpspi {
             bit_order,
             ..DRIVER
         };
@@ -65,7 +65,7 @@ impl Directed<'_> {
 /// Three words, with errors in every turn: the polls, and the number at their end.
 fn three_words(kind: Kind) -> &'static [(&'static str, u32)] {
     match kind {
-        Kind::Separate | Kind::InPlace => &[
+        Kind::ExchangeSeparate | Kind::Exchange => &[
             ("fs sf we f e ss ww", 0),
             ("s f wwe f w f sfSs", 0),
             ("S Sss WeWw", 0),
@@ -78,7 +78,7 @@ fn three_words(kind: Kind) -> &'static [(&'static str, u32)] {
             ("s f wb3", 2),
             ("s sss wer1", 2),
         ],
-        Kind::Write => &[
+        Kind::WriteNoRead => &[
             ("fs sffs s", 0),
             ("S Sfss", 0),
             ("ft", 3),
@@ -86,7 +86,7 @@ fn three_words(kind: Kind) -> &'static [(&'static str, u32)] {
             ("s sfb1", 3),
             ("s sst3", 3),
         ],
-        Kind::Read => &[
+        Kind::ReadNoWrite => &[
             ("fs wee ww", 0),
             ("S WewW", 0),
             ("fb", 3),
@@ -102,7 +102,7 @@ fn stops_everywhere<W: Element>(directed: &mut Directed) {
     let longer = 2 * Transfer::<W>::PER_WORD + 1;
     let shorter = Transfer::<W>::PER_WORD + 1;
     let lengths: &[_] = match directed.kind {
-        Kind::Separate => &[(longer, longer), (longer, shorter), (shorter, longer)],
+        Kind::ExchangeSeparate => &[(longer, longer), (longer, shorter), (shorter, longer)],
         _ => &[(longer, 0)],
     };
     for bit_order in BitOrder::ALL {
@@ -119,7 +119,7 @@ fn stops_everywhere<W: Element>(directed: &mut Directed) {
 /// All lengths up to 9, ready always and in bursts of one or two words.
 fn lengths<W: Element>(directed: &mut Directed) {
     let writes = match directed.kind {
-        Kind::Separate => 10,
+        Kind::ExchangeSeparate => 10,
         _ => 1,
     };
     for bit_order in BitOrder::ALL {
@@ -155,7 +155,7 @@ fn receiving_ahead<W: Element>(directed: &mut Directed) {
 fn frame_sizes<W: Element>(directed: &mut Directed) {
     let kind = directed.kind;
     let lengths = |longer| match kind {
-        Kind::Separate => vec![
+        Kind::ExchangeSeparate => vec![
             (longer, 0),
             (longer, 1),
             (longer, longer),

@@ -1,7 +1,7 @@
 //! Flushes at chosen places.
 
 use super::script::flush_script;
-use super::{judged_flush, stops, DRIVER, REFUSED};
+use super::{DRIVER, REFUSED, judged_flush, stops};
 use crate::common::branches::FlushBranch;
 use crate::common::cases::{Cases, Tally};
 use crate::common::run::{Limits, MAX_BUDGET};

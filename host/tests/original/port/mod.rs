@@ -8,10 +8,11 @@ mod sample;
 mod script;
 mod stops;
 
-use crate::common::run::{found, Left, Limits, MAX_BUDGET};
+use crate::common::Random;
+use crate::common::run::{Left, Limits, MAX_BUDGET, found};
 use crate::common::transfer::{self, Kind, Transfer};
-use lpspi_host::{BitOrder, Driver};
-use original::{run, Call};
+use lpspi_host::{BitOrder, CcrCache, Lpspi, MODE_1, Mode, Pcs};
+use original::{Call, run};
 
 /// An element of buffers of both sides.
 trait Element: transfer::Element + original::Element {}
@@ -28,27 +29,42 @@ const REFUSED: [(usize, usize); 5] = [
 ];
 
 /// The driver of directed runs.
-const DRIVER: Driver = Driver {
+const DRIVER: Lpspi = Lpspi {
     bit_order: BitOrder::Lsb,
-    mode: 1,
-    pcs: 2,
-    dbt: 0x12,
-    sckdiv: 0x34,
+    mode: MODE_1,
+    pcs: Pcs::Pcs2,
+    ccr_cache: CcrCache {
+        dbt: 0x12,
+        sckdiv: 0x34,
+    },
 };
 
-/// The original's form of a driver value.
-fn original_driver(driver: Driver) -> original::Driver {
-    original::Driver {
-        lsb: driver.bit_order.is_lsb(),
-        mode: (driver.mode % 4) as u8,
-        pcs: (driver.pcs % 4) as u8,
-        dbt: driver.dbt,
-        sckdiv: driver.sckdiv,
+fn random_driver(random: &mut Random) -> Lpspi {
+    Lpspi {
+        bit_order: random.order(),
+        mode: Mode::of_number(random.word()),
+        pcs: Pcs::of_number(random.word()),
+        ccr_cache: CcrCache {
+            dbt: random.word() as u8,
+            sckdiv: random.word() as u8,
+        },
     }
 }
 
-/// The number of what a run leaves of the driver.
-fn driver_number(driver: original::Driver) -> u32 {
+/// The original's form of a driver value.
+fn original_driver(driver: Lpspi) -> original::Driver {
+    let CcrCache { dbt, sckdiv } = driver.ccr_cache;
+    original::Driver {
+        lsb: driver.bit_order.is_lsb(),
+        mode: driver.mode.number() as u8,
+        pcs: driver.pcs.number() as u8,
+        dbt,
+        sckdiv,
+    }
+}
+
+/// The number of the original's form of a driver value.
+pub(crate) fn driver_number(driver: original::Driver) -> u32 {
     let original::Driver {
         lsb,
         mode,
@@ -56,18 +72,17 @@ fn driver_number(driver: original::Driver) -> u32 {
         dbt,
         sckdiv,
     } = driver;
-    Driver {
+    Lpspi {
         bit_order: BitOrder::ALL[usize::from(lsb)],
-        mode: mode.into(),
-        pcs: pcs.into(),
-        dbt,
-        sckdiv,
+        mode: Mode::of_number(mode.into()),
+        pcs: Pcs::of_number(pcs.into()),
+        ccr_cache: CcrCache { dbt, sckdiv },
     }
     .number()
 }
 
 /// All as found, with a number.
-fn refused<W>(number: u32, driver: Driver, limits: &Limits) -> Left<W> {
+fn refused<W>(number: u32, driver: Lpspi, limits: &Limits) -> Left<W> {
     Left {
         number,
         driver: driver.number(),
@@ -81,7 +96,7 @@ fn refused<W>(number: u32, driver: Driver, limits: &Limits) -> Left<W> {
 
 /// A run without a value, as the scope document has it: the original's, once past
 /// number 5. The buffer is the caller's to add.
-fn judged<W>(call: Call, driver: Driver, limits: &Limits) -> Left<W> {
+fn judged<W>(call: Call, driver: Lpspi, limits: &Limits) -> Left<W> {
     if limits.refused() {
         return refused(5, driver, limits);
     }
@@ -102,15 +117,15 @@ fn judged_transfer<W: Element>(transfer: &Transfer<W>, limits: &Limits) -> Left<
     let (mut buffer, write) = (transfer.read.clone(), &transfer.write[..]);
     let read = &mut buffer[..];
     let call = W::call(match transfer.kind {
-        Kind::Separate => original::Transfer::ExchangeSeparate { read, write },
-        Kind::InPlace => original::Transfer::Exchange(read),
-        Kind::Write => original::Transfer::WriteNoRead(write),
-        Kind::Read => original::Transfer::ReadNoWrite(read),
+        Kind::ExchangeSeparate => original::Transfer::ExchangeSeparate { read, write },
+        Kind::Exchange => original::Transfer::Exchange(read),
+        Kind::WriteNoRead => original::Transfer::WriteNoRead(write),
+        Kind::ReadNoWrite => original::Transfer::ReadNoWrite(read),
     });
     let left = judged(call, transfer.driver, limits);
     Left { buffer, ..left }
 }
 
-fn judged_flush(driver: Driver, limits: &Limits) -> Left<u8> {
+fn judged_flush(driver: Lpspi, limits: &Limits) -> Left<u8> {
     judged(Call::Flush, driver, limits)
 }

@@ -7,14 +7,14 @@
 //! them. (Whether a FIFO is full is told by the original's counts, as its `is_full` does.) The test holds the files against the original; with `LPSPI_SAMPLE=write` it
 //! writes them.
 
-use super::calls::{Case, CALLS};
-use super::{judged_flush, judged_transfer, Element};
+use super::calls::{CALLS, Case};
+use super::{Element, judged_flush, judged_transfer, random_driver};
+use crate::common::Random;
 use crate::common::random_runs::Mood;
 use crate::common::registers::ERRORS;
-use crate::common::run::{listing, Left, Limits};
+use crate::common::run::{Left, Limits, listing};
 use crate::common::transfer::{Kind, Transfer};
-use crate::common::Random;
-use lpspi_host::Driver;
+use lpspi_host::{CcrCache, Lpspi};
 use std::fmt::UpperHex;
 use std::path::Path;
 use std::{env, fs};
@@ -47,15 +47,10 @@ fn list<N: UpperHex>(name: &str, numbers: &[N], digits: usize) -> String {
 }
 
 /// A driver value, as lines have it.
-fn driver_text(driver: Driver) -> String {
+fn driver_text(driver: Lpspi) -> String {
     let order = if driver.bit_order.is_lsb() { 'L' } else { 'M' };
-    let Driver {
-        mode,
-        pcs,
-        dbt,
-        sckdiv,
-        ..
-    } = driver;
+    let (mode, pcs) = (driver.mode.number(), driver.pcs.number());
+    let CcrCache { dbt, sckdiv } = driver.ccr_cache;
     format!(" driver {order} {mode} {pcs} 0x{dbt:02X} 0x{sckdiv:02X}")
 }
 
@@ -63,7 +58,7 @@ fn driver_text(driver: Driver) -> String {
 /// printed as.
 fn lines<W: UpperHex>(
     call: &str,
-    driver: Driver,
+    driver: Lpspi,
     (read, write): (&[W], &[W]),
     limits: &Limits,
     left: &Left<W>,
@@ -89,19 +84,9 @@ fn lines<W: UpperHex>(
     let read = list("read", &left.buffer, digits);
     answer.extend([read, value.to_owned()]);
     answer.retain(|line| !line.is_empty());
-    let driver = driver_text(Driver::of_number(*driver));
+    let driver = driver_text(Lpspi::of_number(*driver));
     answer.push(format!("{number} {accesses} {answers}{driver}"));
     (inputs, answer.join("\n"))
-}
-
-fn random_driver(random: &mut Random) -> Driver {
-    Driver {
-        bit_order: random.order(),
-        mode: random.word() % 4,
-        pcs: random.word() % 4,
-        dbt: random.word() as u8,
-        sckdiv: random.word() as u8,
-    }
 }
 
 /// Limits within which a run ends, by itself for the most part.
@@ -137,10 +122,10 @@ fn transfer<W: Element + UpperHex>(random: &mut Random, kind: Kind, first: bool)
     let limits = random_limits(random, 60, |limits| judged_transfer(&transfer, limits));
     let left = judged_transfer(&transfer, &limits);
     let name = match kind {
-        Kind::Separate => "exchange_separate",
-        Kind::InPlace => "exchange",
-        Kind::Write => "write_no_read",
-        Kind::Read => "read_no_write",
+        Kind::ExchangeSeparate => "exchange_separate",
+        Kind::Exchange => "exchange",
+        Kind::WriteNoRead => "write_no_read",
+        Kind::ReadNoWrite => "read_no_write",
     };
     let call = format!("{name}_u{}", 8 * size_of::<W>());
     let buffers = (&transfer.read[..], &transfer.write[..]);

@@ -1,6 +1,6 @@
 //! Scripts of signs. Blanks do not count.
 
-use crate::common::registers::{BUSY, ERRORS, MEN, RXCOUNT, RX_ERROR, TXCOUNT, TXFIFO, TX_ERROR};
+use crate::common::registers::{BUSY, ERRORS, MEN, RX_ERROR, RXCOUNT, TX_ERROR, TXCOUNT, TXFIFO};
 
 /// The word of a place: words that look like any.
 pub fn any_word(place: usize) -> u32 {

@@ -1,7 +1,7 @@
 //! The branches of the other calls.
 
-use super::{odd, Case, Entry, CALLS};
-use crate::common::branches::{restored, stops, Along};
+use super::{CALLS, Case, Entry, odd};
+use crate::common::branches::{Along, restored, stops};
 use crate::common::registers::PARAM;
 use crate::common::run::{Cause, Left};
 use std::cmp::Ordering;

@@ -1,11 +1,11 @@
 //! Calls at chosen places: stops, frame sizes, clocks, exponents and limits.
 
 use super::branches::Branch;
-use super::{Case, Entry, CALLS};
+use super::{CALLS, Case, Entry};
 use crate::common::cases::{Cases, Tally};
 use crate::common::run::{Left, Limits, MAX_BUDGET};
 use crate::port::script::any_word;
-use crate::port::{stops, DRIVER, REFUSED};
+use crate::port::{DRIVER, REFUSED, stops};
 
 /// Calls, and the branches that they reach.
 struct Directed {

@@ -1,33 +1,23 @@
-//! The other calls: the port's, by the numbers of the C functions, against the
-//! original's.
+//! The other calls: the port's, by the C functions, against the original's.
 
 mod branches;
 mod directed;
 mod random;
 
 use super::{driver_number, original_driver, refused};
-use crate::common::branches::{Table, RECOVERY};
+use crate::common::branches::{RECOVERY, Table};
+use crate::common::function::Function;
 use crate::common::registers::PARAM;
-use crate::common::run::{found, Left, Limits};
-use lpspi_host::{raw, Driver};
-use original::{run, Call, ClockConfigs, Direction, Outcome, Value};
+use crate::common::run::{Left, Limits, found};
+use lpspi_host::Lpspi;
+use lpspi_host::raw::{Disabled, Get, Reset, Set};
+use original::{Call, ClockConfigs, Direction, Outcome, Value, run};
 use std::fmt::{self, Debug, Formatter};
-
-/// The C function of a call.
-#[derive(Debug, Clone, Copy)]
-enum Function {
-    Reset,
-    Set,
-    Disabled,
-    Get,
-}
 
 /// A call.
 pub(super) struct Entry {
     name: &'static str,
     function: Function,
-    /// Its number there.
-    kind: u32,
     accesses: Table,
     /// The original's, of the parameters.
     call: fn(u32, u32) -> Call<'static>,
@@ -41,14 +31,13 @@ impl Debug for Entry {
 
 const fn entry(
     name: &'static str,
-    (function, kind): (Function, u32),
+    function: Function,
     accesses: Table,
     call: fn(u32, u32) -> Call<'static>,
 ) -> Entry {
     Entry {
         name,
         function,
-        kind,
         accesses,
         call,
     }
@@ -56,68 +45,109 @@ const fn entry(
 
 /// Every call.
 pub(super) const CALLS: [Entry; 19] = {
-    use Function::*;
+    use {Disabled::*, Get::*, Reset::*, Set::*};
     // A recovery without its last write.
     let soft_reset = RECOVERY.split_at(RECOVERY.len() - 1).0;
     [
-        entry("soft_reset", (Reset, 0), soft_reset, |_, _| Call::SoftReset),
-        entry("recover_from_error", (Reset, 1), RECOVERY, |_, _| {
-            Call::RecoverFromError
+        entry(
+            "soft_reset",
+            Function::Reset(SoftReset),
+            soft_reset,
+            |_, _| Call::SoftReset,
+        ),
+        entry(
+            "recover_from_error",
+            Function::Reset(RecoverFromError),
+            RECOVERY,
+            |_, _| Call::RecoverFromError,
+        ),
+        entry("init", Function::Reset(Init), "RWMRWRWWRWW", |_, _| {
+            Call::Init
         }),
-        entry("init", (Reset, 2), "RWMRWRWWRWW", |_, _| Call::Init),
-        entry("clear_status", (Set, 0), "W", |a, _| Call::ClearStatus(a)),
-        entry("set_enable", (Set, 1), "RW", |a, _| Call::SetEnable(odd(a))),
-        entry("clear_fifo", (Set, 2), "RW", |a, _| {
+        entry("clear_status", Function::Set(ClearStatus), "W", |a, _| {
+            Call::ClearStatus(a)
+        }),
+        entry("set_enable", Function::Set(SetEnable), "RW", |a, _| {
+            Call::SetEnable(odd(a))
+        }),
+        entry("clear_fifo", Function::Set(ClearFifo), "RW", |a, _| {
             Call::ClearFifo(direction(a))
         }),
-        entry("enqueue_data", (Set, 3), "W", |a, _| Call::EnqueueData(a)),
-        entry("enqueue_transaction", (Set, 4), "W", |frame_size, _| {
-            Call::EnqueueTransaction { frame_size }
-        }),
-        entry("set_clock_hz", (Disabled, 0), "RRWMWRW", |a, b| {
-            let (source_hz, clock_hz) = (a, b);
-            Call::SetClockHz {
-                source_hz,
-                clock_hz,
-            }
-        }),
-        entry("set_clock_configs", (Disabled, 1), "RRWMWRW", |a, _| {
-            let [sckdiv, dbt, pcssck, sckpcs] = a.to_le_bytes();
-            Call::SetClockConfigs(ClockConfigs {
-                sckpcs,
-                pcssck,
-                dbt,
-                sckdiv,
-            })
-        }),
-        entry("set_sample_point", (Disabled, 2), "RRWMRWRW", |a, _| {
-            Call::SetSamplePoint { delayed: odd(a) }
+        entry("enqueue_data", Function::Set(EnqueueData), "W", |a, _| {
+            Call::EnqueueData(a)
         }),
         entry(
+            "enqueue_transaction",
+            Function::Set(EnqueueTransaction),
+            "W",
+            |frame_size, _| Call::EnqueueTransaction { frame_size },
+        ),
+        entry(
+            "set_clock_hz",
+            Function::Disabled(SetClockHz),
+            "RRWMWRW",
+            |a, b| {
+                let (source_hz, clock_hz) = (a, b);
+                Call::SetClockHz {
+                    source_hz,
+                    clock_hz,
+                }
+            },
+        ),
+        entry(
+            "set_clock_configs",
+            Function::Disabled(SetClockConfigs),
+            "RRWMWRW",
+            |a, _| {
+                let [sckdiv, dbt, pcssck, sckpcs] = a.to_le_bytes();
+                Call::SetClockConfigs(ClockConfigs {
+                    sckpcs,
+                    pcssck,
+                    dbt,
+                    sckdiv,
+                })
+            },
+        ),
+        entry(
+            "set_sample_point",
+            Function::Disabled(SetSamplePoint),
+            "RRWMRWRW",
+            |a, _| Call::SetSamplePoint { delayed: odd(a) },
+        ),
+        entry(
             "set_peripheral_enable",
-            (Disabled, 3),
+            Function::Disabled(SetPeripheralEnable),
             "RRWMRWRW",
             |a, _| Call::SetPeripheralEnable(odd(a)),
         ),
         entry(
             "set_chip_select_polarity",
-            (Disabled, 4),
+            Function::Disabled(SetChipSelectPolarity),
             "RRWMRRWRW",
             |a, b| Call::SetChipSelectPolarity {
                 pcs: (a % 4) as u8,
                 active_high: odd(b),
             },
         ),
-        entry("watermark", (Get, 0), "R", |a, _| {
+        entry("watermark", Function::Get(Watermark), "R", |a, _| {
             Call::Watermark(direction(a))
         }),
-        entry("set_watermark", (Get, 1), "RRW", |a, b| {
-            Call::SetWatermark(direction(a), b as u8)
+        entry(
+            "set_watermark",
+            Function::Get(SetWatermark),
+            "RRW",
+            |a, b| Call::SetWatermark(direction(a), b as u8),
+        ),
+        entry("status", Function::Get(Status), "R", |_, _| Call::Status),
+        entry("is_enabled", Function::Get(IsEnabled), "R", |_, _| {
+            Call::IsEnabled
         }),
-        entry("status", (Get, 2), "R", |_, _| Call::Status),
-        entry("is_enabled", (Get, 3), "R", |_, _| Call::IsEnabled),
-        entry("fifo_status", (Get, 4), "RR", |_, _| Call::FifoStatus),
-        entry("read_data", (Get, 5), "RR", |_, _| Call::ReadData),
+        entry("fifo_status", Function::Get(FifoStatus), "RR", |_, _| {
+            Call::FifoStatus
+        }),
+        entry("read_data", Function::Get(ReadData), "RR", |_, _| {
+            Call::ReadData
+        }),
     ]
 };
 
@@ -138,7 +168,7 @@ pub(super) struct Case {
     entry: &'static Entry,
     a: u32,
     b: u32,
-    pub(super) driver: Driver,
+    pub(super) driver: Lpspi,
     pub(super) limits: Limits,
 }
 
@@ -169,7 +199,8 @@ impl Case {
             }
             Call::EnqueueTransaction { .. } => {
                 let order = u32::from(driver.bit_order.is_lsb());
-                format!("{name} {a} {order} {} {}", driver.mode, driver.pcs)
+                let (mode, pcs) = (driver.mode.number(), driver.pcs.number());
+                format!("{name} {a} {order} {mode} {pcs}")
             }
             _ => name.to_owned(),
         }
@@ -197,33 +228,8 @@ impl Case {
 
     /// What the port leaves.
     fn port(&self) -> Left<u8> {
-        let Self {
-            a, b, ref limits, ..
-        } = *self;
-        let (kind, budget, script) = (self.entry.kind, limits.budget, &limits.script[..]);
-        let (mut driver, mut log) = (self.driver.number(), found(limits.log_len));
-        // What is given is given over these.
-        let (mut accesses, mut answers) = (7, 7);
-        let mut value = match self.entry.function {
-            Function::Get => 7,
-            _ => 0,
-        };
-        let (d, l, m, n) = (&mut driver, &mut log[..], &mut accesses, &mut answers);
-        let number = match self.entry.function {
-            Function::Reset => raw::reset(kind, d, budget, script, l, m, n),
-            Function::Set => raw::set(kind, a, d, budget, script, l, m, n),
-            Function::Disabled => raw::disabled(kind, a, b, d, budget, script, l, m, n),
-            Function::Get => raw::get(kind, a, b, d, budget, script, l, m, n, &mut value),
-        };
-        Left {
-            number,
-            driver,
-            accesses,
-            answers,
-            value,
-            buffer: vec![],
-            log,
-        }
+        let (parameters, driver) = ([self.a, self.b], self.driver.number());
+        self.entry.function.port(parameters, driver, &self.limits)
     }
 
     fn call(&self) -> Call<'static> {
@@ -273,7 +279,7 @@ impl Case {
         Left {
             number: number.expect("the original did not panic"),
             driver: match self.call() {
-                Call::Init => Driver::default().number(),
+                Call::Init => Lpspi::default().number(),
                 _ => driver_number(outcome.driver),
             },
             accesses: outcome.accesses,

@@ -1,11 +1,11 @@
 //! Random calls.
 
 use super::branches::Branch;
-use super::{Case, CALLS};
+use super::{CALLS, Case};
+use crate::common::Random;
 use crate::common::cases::Tally;
 use crate::common::run::{Limits, MAX_BUDGET};
-use crate::common::Random;
-use lpspi_host::Driver;
+use crate::port::random_driver;
 
 impl Case {
     pub(in crate::port) fn random(random: &mut Random) -> Self {
@@ -19,23 +19,13 @@ impl Case {
         if entry.name == "enqueue_transaction" && random.chance(192) {
             a = 8 + random.below(4_089) as u32;
         }
-        let driver = Driver {
-            bit_order: random.order(),
-            mode: random.word() % 4,
-            pcs: random.word() % 4,
-            dbt: random.word() as u8,
-            sckdiv: random.word() as u8,
-        };
+        let driver = random_driver(random);
         // MEN mostly 0, so that waits end, and small exponents in most places.
         let any_men = [32, 32, 32, 256][random.below(4)];
         let small = random.flag();
         let answer = |random: &mut Random| {
             let word = random.word() & if random.chance(any_men) { !0 } else { !1 };
-            if small {
-                word & 0xFFFF_0404
-            } else {
-                word
-            }
+            if small { word & 0xFFFF_0404 } else { word }
         };
         let script = (0..random.below(40)).map(|_| answer(random)).collect();
         let budget = match random.below(40) {

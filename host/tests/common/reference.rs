@@ -3,7 +3,8 @@
 //! The tests compare the proved functions with these. Where possible they are
 //! computed in another way than the document's formulas.
 
-use crate::{BitOrder, Command, Error};
+use super::command::Command;
+use lpspi_host::{BitOrder, Error, LpspiError};
 use std::iter;
 
 /// The byte sent where the write buffer has no more.
@@ -14,7 +15,7 @@ pub fn command(command: &Command) -> Result<u32, Error> {
     // With FRAMESZ = f - 1, "f mod 32 is not 1" is "FRAMESZ mod 32 is not 0".
     let framesz = i64::from(command.frame_size) - 1;
     if !(7..=0xFFF).contains(&framesz) || framesz % 32 == 0 {
-        return Err(Error::FrameSize);
+        return Err(LpspiError::FrameSize.into());
     }
     let fields = [
         (1, u64::from(command.mode / 2 % 2)), // CPOL
