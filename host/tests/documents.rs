@@ -20,7 +20,7 @@ mod pages;
 #[path = "common/sources.rs"]
 mod sources;
 
-use cited::{files, outside, read, root, Repository};
+use cited::{Repository, files, outside, read, root};
 use pages::{identifiers, links, paragraphs, spans};
 use sources::{code, sources};
 use std::collections::{BTreeMap, BTreeSet};
@@ -215,34 +215,4 @@ fn the_index_of_sentences_is_right() {
         );
     }
     assert!(cited.is_empty(), "not in the index: {cited:?}");
-}
-
-/// Documents, code and definitions can be read in an editor and in a diff.
-#[test]
-fn lines_are_short() {
-    const LONGEST: usize = 140;
-    let (mut seen, mut long) = (0, Vec::new());
-    for path in files("") {
-        let parts: Vec<_> = path.split('/').collect();
-        let looked_at = match parts[..] {
-            [page] | ["docs", page] => page.ends_with(".md"),
-            ["crates", _, "src" | "specs", ..] => true,
-            _ => false,
-        };
-        if looked_at {
-            seen += 1;
-            for (i, line) in read(&path).lines().enumerate() {
-                let length = line.chars().count();
-                if length > LONGEST {
-                    long.push(format!("{path}:{}: {length}", i + 1));
-                }
-            }
-        }
-    }
-    assert!(seen > 100, "only {seen} files");
-    assert!(
-        long.is_empty(),
-        "more than {LONGEST} characters:\n{}",
-        long.join("\n")
-    );
 }

@@ -1,4 +1,15 @@
 // The two-board bus: a gate board that clocks it, and an antenna board that replies.
+//
+// What each type of the code is in the definitions (agreement `End`, `Events`, `Start`, `Agreement`; the views are bus `View` and `Held`):
+//
+//   Fifo        a queue, a list of words                              queueOf
+//   Port        Wire: both queues and the flags T and R               wireOf
+//   Station     End, but for received words and registers             endOf; as a trial shows it stationSeen
+//   Stations    Pair: the gate's end and the antenna's                pairOf
+//   Link        Job: what an end goes by                              linkJob
+//   Entrant     Start: a board and what it starts with                Prepared
+//   EndState    Seen: what can be seen of an end                      stateOf
+//   Outcome     TrialLeft: what a trial leaves                        trialLeft
 mod begin;
 mod clock;
 mod event;

@@ -321,7 +321,8 @@ impl<'a> Cited<'a> {
         };
         if let Some((module, law)) = span.split_once('.').filter(|_| !is_file(span)) {
             if module.starts_with(|c: char| c.is_ascii_uppercase()) && whole(module) && whole(law) {
-                let mut files = repository.ending(&format!("{module}.antt"));
+                let file = format!("{module}.antt");
+                let mut files = repository.ending(&file);
                 let there = files.any(|path| repository.has(path, law));
                 self.place(there, module, law);
             }
