@@ -277,7 +277,8 @@ fn read_rest(
     answers: &mut [u32],
 ) -> Parsed
     requires { ⌜ (header .width ≤ 32) × (512 ≤ length (now written)) × (8000 ≤ length (now answers)) ⌝ }
-    ensures { λ r. ⌜ Answers (askedWith header (now (write .entry)) (now (read .entry)) (now (script .entry)))
+    ensures { λ r. ⌜ Answers
+        (askedWith header (now (write .entry)) (now (read .entry)) (now (script .entry)))
         (now (written .exit)) (now (answers .exit)) r ⌝ }
 {
     match read_elements(header.width, 512, write, written) {
@@ -307,7 +308,8 @@ fn read_lines(
     answers: &mut [u32],
 ) -> Parsed
     requires { ⌜ (512 ≤ length (now written)) × (8000 ≤ length (now answers)) ⌝ }
-    ensures { λ r. ⌜ Answers (askedOf (now (first .entry)) (now (write .entry)) (now (read .entry)) (now (script .entry)))
+    ensures { λ r. ⌜ Answers
+        (askedOf (now (first .entry)) (now (write .entry)) (now (read .entry)) (now (script .entry)))
         (now (written .exit)) (now (answers .exit)) r ⌝ }
 {
     match read_first(first) {

@@ -63,7 +63,8 @@ returns-2 : tie.Need-returns-2
 returns-2 c =
     let c₆ = c .before .before .before .before .before .before in
     let none = answers c₆ Malformed (c .before .before .enum-told .given .1) in
-    let short = le-leb (length (c₆ .before .before .before .before .before .args .input .now)) 131072 (c₆ .before .before .before .if1 .left) in
+    let input = c₆ .before .before .before .before .before .args .input .now in
+    let short = le-leb (length input) 131072 (c₆ .before .before .before .if1 .left) in
     rw (short, none) (c .bad2 .ensures)
 
 returns-3 : tie.Need-returns-3
@@ -72,7 +73,8 @@ returns-3 c =
     let c₁₀ = c₆ .before .before .before .before in
     let q = c₆ .asked .given in
     let asked = answers c₁₀ (Request (q .0 .0)) (q .1) in
-    let short = le-leb (length (c₁₀ .before .before .before .before .before .args .input .now)) 131072 (c₁₀ .before .before .before .if1 .left) in
+    let input = c₁₀ .before .before .before .before .before .args .input .now in
+    let short = le-leb (length input) 131072 (c₁₀ .before .before .before .if1 .left) in
     rw (short, asked .asks) (c .list .ensures)
 
 pub buslog-spec : {M : Type 1} → statement M
