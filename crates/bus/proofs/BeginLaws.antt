@@ -14,8 +14,7 @@ use Rattle.transfers.specs.Begin.{lengthPlan}
 use Rattle.agreement.specs.declared.board.Board.{Board}
 use Rattle.agreement.specs.Start.{Start, elementBits, total, unequal, unfitBy, transferOf}
 use Rattle.agreement.proofs.StartFacts.{either}
-use Rattle.bus.specs.Begin.{totalBy}
-use Rattle.bus.specs.Trial.{refusedBy}
+use Rattle.bus.specs.Begin.{totalBy, refusedBy}
 
 pub total-is : (s : Start) → total s ≡ totalBy (s .board .inplace) (length (s .read)) (length (s .write))
 total-is s = by-place (s .board .inplace)

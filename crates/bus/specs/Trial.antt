@@ -4,9 +4,8 @@ use Prim.Native.Nat.{ℕ}
 use mathlib.Core.Bool.{Bool, cond, _||_}
 use mathlib.Core.List.{List}
 use mathlib.Core.Path.{_≡_}
-use Rattle.words.specs.Width.{widthBits}
 use Rattle.agreement.specs.declared.board.Board.{Board}
-use Rattle.agreement.specs.Start.{Start, total, unequal, unfitBy}
+use Rattle.agreement.specs.Start.{Start, elementBits, unequal, unfit}
 use Rattle.agreement.specs.End.{freshEnd}
 use Rattle.agreement.specs.Events.{pairAfter}
 use Rattle.agreement.specs.Agreement.{Seen, seen, bufferOf, Agreement}
@@ -18,13 +17,9 @@ use Rattle.bus.specs.View.{stateOf}
 abbrev pub startOf : Board → List ℕ → List ℕ → Start
 startOf b read write = record { board = b; read = read; write = write }
 
--- number 9, of the total lengths: boards that do not fit, or, "unequal width" too, that are not of the buffers' width
-abbrev pub refusedBy : ℕ → Board → Board → ℕ → ℕ → Bool
-refusedBy k g a gateTotal antennaTotal = unequal (widthBits (g .width)) k || unfitBy g a gateTotal antennaTotal
-
--- number 9
+-- number 9: boards that do not fit, or, "unequal width" too, that are not of the buffers' width
 abbrev pub refused : ℕ → Start → Start → Bool
-refused k g a = refusedBy k (g .board) (a .board) (total g) (total a)
+refused k g a = unequal (elementBits g) k || unfit g a
 
 -- what a trial leaves: its number, both ends, and both read buffers
 pub record TrialLeft : Type 0 where

@@ -2,8 +2,7 @@
 ghost use mathlib.Core.Path.{_≡_};
 ghost use Rattle.words.specs.Width.{widthBits};
 ghost use Rattle.agreement.specs.End.{freshRegisters};
-ghost use Rattle.bus.specs.Begin.{totalBy};
-ghost use Rattle.bus.specs.Trial.{refusedBy};
+ghost use Rattle.bus.specs.Begin.{totalBy, refusedBy};
 ghost use Rattle.bus.specs.Held.{Fresh, linkOf};
 use crate::port::Port;
 use crate::station::Link;

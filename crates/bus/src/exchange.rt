@@ -38,20 +38,20 @@ fn left(number: u32, ends: Stations, gate: [u32; 30], antenna: [u32; 30]) -> Out
     }
 }
 
-// `gate_sent` and `antenna_sent` have the words packed at the start, the other two the places for those received.
+// `gate_send` and `antenna_send` have the words packed at the start, the other two the places for those received.
 pub(crate) fn exchange(
     width: Width,
     gate: Entrant,
     antenna: Entrant,
-    gate_sent: &[u32],
-    antenna_sent: &[u32],
-    gate_received: &mut [u32],
-    antenna_received: &mut [u32],
+    gate_send: &[u32],
+    antenna_send: &[u32],
+    gate_words: &mut [u32],
+    antenna_words: &mut [u32],
     events: &[u8],
 ) -> Outcome
-    requires { ⌜ (length (now «gate_received») ≡ 128) × (length (now «antenna_received») ≡ 128) ⌝ }
-    ensures { λ r. ⌜ Exchanged (widthBits width) gate antenna (now («gate_sent» .entry)) (now («antenna_sent» .entry))
-        (now (events .entry)) r (now («gate_received» .exit)) (now («antenna_received» .exit)) ⌝ }
+    requires { ⌜ (length (now «gate_words») ≡ 128) × (length (now «antenna_words») ≡ 128) ⌝ }
+    ensures { λ r. ⌜ Exchanged (widthBits width) gate antenna (now («gate_send» .entry)) (now («antenna_send» .entry))
+        (now (events .entry)) r (now («gate_words» .exit)) (now («antenna_words» .exit)) ⌝ }
 {
     let stations = Stations {
         gate: fresh(gate),
@@ -67,10 +67,10 @@ pub(crate) fn exchange(
         stations,
         link(gate),
         link(antenna),
-        gate_sent,
-        antenna_sent,
-        gate_received,
-        antenna_received,
+        gate_send,
+        antenna_send,
+        gate_words,
+        antenna_words,
         &mut gate_registers,
         &mut antenna_registers,
     );

@@ -32,48 +32,48 @@ pub struct Outcome {
 }
 
 // The words that a board sends, packed at the start: of its one buffer in place, else of its write buffer.
-fn prepare_u8(board: Board, total: usize, read: &[u8], write: &[u8], sent_words: &mut [u32])
-    ensures { λ _. ⌜ now («sent_words» .exit)
+fn prepare_u8(board: Board, total: usize, read: &[u8], write: &[u8], send: &mut [u32])
+    ensures { λ _. ⌜ now («send» .exit)
         ≡ laid (packWords (board .driver .order) 8 total (started (startOf board (now (read .entry)) (now (write .entry)))))
-        (now («sent_words» .entry)) ⌝ }
+        (now («send» .entry)) ⌝ }
 {
     let driver = board.driver;
     let order = driver.bit_order();
     if board.inplace {
-        pack_words_u8(order, read, total, sent_words);
+        pack_words_u8(order, read, total, send);
         return;
     }
-    pack_words_u8(order, write, total, sent_words);
+    pack_words_u8(order, write, total, send);
 }
 
 // The words that a board sends, packed at the start: of its one buffer in place, else of its write buffer.
-fn prepare_u16(board: Board, total: usize, read: &[u16], write: &[u16], sent_words: &mut [u32])
-    ensures { λ _. ⌜ now («sent_words» .exit)
+fn prepare_u16(board: Board, total: usize, read: &[u16], write: &[u16], send: &mut [u32])
+    ensures { λ _. ⌜ now («send» .exit)
         ≡ laid (packWords (board .driver .order) 16 total (started (startOf board (now (read .entry)) (now (write .entry)))))
-        (now («sent_words» .entry)) ⌝ }
+        (now («send» .entry)) ⌝ }
 {
     let driver = board.driver;
     let order = driver.bit_order();
     if board.inplace {
-        pack_words_u16(order, read, total, sent_words);
+        pack_words_u16(order, read, total, send);
         return;
     }
-    pack_words_u16(order, write, total, sent_words);
+    pack_words_u16(order, write, total, send);
 }
 
 // The words that a board sends, packed at the start: of its one buffer in place, else of its write buffer.
-fn prepare_u32(board: Board, total: usize, read: &[u32], write: &[u32], sent_words: &mut [u32])
-    ensures { λ _. ⌜ now («sent_words» .exit)
+fn prepare_u32(board: Board, total: usize, read: &[u32], write: &[u32], send: &mut [u32])
+    ensures { λ _. ⌜ now («send» .exit)
         ≡ laid (packWords (board .driver .order) 32 total (started (startOf board (now (read .entry)) (now (write .entry)))))
-        (now («sent_words» .entry)) ⌝ }
+        (now («send» .entry)) ⌝ }
 {
     let driver = board.driver;
     let order = driver.bit_order();
     if board.inplace {
-        pack_words_u32(order, read, total, sent_words);
+        pack_words_u32(order, read, total, send);
         return;
     }
-    pack_words_u32(order, write, total, sent_words);
+    pack_words_u32(order, write, total, send);
 }
 
 // A list of events from fresh.
@@ -92,15 +92,15 @@ pub fn trial_u8(
 {
     let gate_total = total_of(gate.inplace, gate_read.len(), gate_write.len());
     let antenna_total = total_of(antenna.inplace, antenna_read.len(), antenna_write.len());
-    let mut gate_sent = [0u32; Transaction::MAX_WORDS];
-    let mut antenna_sent = [0u32; Transaction::MAX_WORDS];
-    prepare_u8(gate, gate_total, &gate_read[..], gate_write, &mut gate_sent);
+    let mut gate_send = [0u32; Transaction::MAX_WORDS];
+    let mut antenna_send = [0u32; Transaction::MAX_WORDS];
+    prepare_u8(gate, gate_total, &gate_read[..], gate_write, &mut gate_send);
     prepare_u8(
         antenna,
         antenna_total,
         &antenna_read[..],
         antenna_write,
-        &mut antenna_sent,
+        &mut antenna_send,
     );
     let mut gate_words = [0u32; Transaction::MAX_WORDS];
     let mut antenna_words = [0u32; Transaction::MAX_WORDS];
@@ -116,8 +116,8 @@ pub fn trial_u8(
         Width::U8,
         ours,
         theirs,
-        &gate_sent,
-        &antenna_sent,
+        &gate_send,
+        &antenna_send,
         &mut gate_words,
         &mut antenna_words,
         events,
@@ -156,15 +156,15 @@ pub fn trial_u16(
 {
     let gate_total = total_of(gate.inplace, gate_read.len(), gate_write.len());
     let antenna_total = total_of(antenna.inplace, antenna_read.len(), antenna_write.len());
-    let mut gate_sent = [0u32; Transaction::MAX_WORDS];
-    let mut antenna_sent = [0u32; Transaction::MAX_WORDS];
-    prepare_u16(gate, gate_total, &gate_read[..], gate_write, &mut gate_sent);
+    let mut gate_send = [0u32; Transaction::MAX_WORDS];
+    let mut antenna_send = [0u32; Transaction::MAX_WORDS];
+    prepare_u16(gate, gate_total, &gate_read[..], gate_write, &mut gate_send);
     prepare_u16(
         antenna,
         antenna_total,
         &antenna_read[..],
         antenna_write,
-        &mut antenna_sent,
+        &mut antenna_send,
     );
     let mut gate_words = [0u32; Transaction::MAX_WORDS];
     let mut antenna_words = [0u32; Transaction::MAX_WORDS];
@@ -180,8 +180,8 @@ pub fn trial_u16(
         Width::U16,
         ours,
         theirs,
-        &gate_sent,
-        &antenna_sent,
+        &gate_send,
+        &antenna_send,
         &mut gate_words,
         &mut antenna_words,
         events,
@@ -220,15 +220,15 @@ pub fn trial_u32(
 {
     let gate_total = total_of(gate.inplace, gate_read.len(), gate_write.len());
     let antenna_total = total_of(antenna.inplace, antenna_read.len(), antenna_write.len());
-    let mut gate_sent = [0u32; Transaction::MAX_WORDS];
-    let mut antenna_sent = [0u32; Transaction::MAX_WORDS];
-    prepare_u32(gate, gate_total, &gate_read[..], gate_write, &mut gate_sent);
+    let mut gate_send = [0u32; Transaction::MAX_WORDS];
+    let mut antenna_send = [0u32; Transaction::MAX_WORDS];
+    prepare_u32(gate, gate_total, &gate_read[..], gate_write, &mut gate_send);
     prepare_u32(
         antenna,
         antenna_total,
         &antenna_read[..],
         antenna_write,
-        &mut antenna_sent,
+        &mut antenna_send,
     );
     let mut gate_words = [0u32; Transaction::MAX_WORDS];
     let mut antenna_words = [0u32; Transaction::MAX_WORDS];
@@ -244,8 +244,8 @@ pub fn trial_u32(
         Width::U32,
         ours,
         theirs,
-        &gate_sent,
-        &antenna_sent,
+        &gate_send,
+        &antenna_send,
         &mut gate_words,
         &mut antenna_words,
         events,

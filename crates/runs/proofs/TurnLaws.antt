@@ -23,8 +23,8 @@ use Rattle.machine.specs.declared.transfer.Stage.the-variants.{Space, Command, 
 use Rattle.machine.specs.declared.transfer.Work.{Work}
 use Rattle.machine.specs.declared.transfer.Transfer.{Transfer}
 use Rattle.machine.specs.declared.poll.Polled.{Polled}
-use Rattle.machine.specs.declared.poll.Polled.the-variants.{Next, Ready as ready, Unready as unready}
-use Rattle.machine.specs.Poll.{pollAccess, polled}
+use Rattle.machine.specs.declared.poll.Polled.the-variants.{Failed, Next, Ready as ready, Unready as unready}
+use Rattle.machine.specs.Poll.{pollAccess, polled, whole}
 use Rattle.machine.specs.Transfer.{at, counted, worked, turnAt, sendTurn, receiveTurn, spaceBy}
 use Rattle.machine.specs.Transfer.{sendingBy, receivingBy, atStart, dueAccess, resumed}
 use Rattle.machine.proofs.PollLaws.{Settled, settled-ready, settled-unready}
@@ -37,7 +37,7 @@ use Rattle.runs.specs.declared.fast.turns.Turn.{Turn}
 use Rattle.runs.specs.declared.fast.turns.Turn.the-variants.{Made}
 use Rattle.runs.specs.Run.{put}
 use Rattle.runs.specs.Drive.{wordIn, Stands}
-use Rattle.runs.specs.Turns.{spot, putPoll, Whole, Looked, otherSide, sameSide, hasMore}
+use Rattle.runs.specs.Turns.{spot, putPoll, shownBy, isRare, Whole, Looked, otherSide, sameSide, hasMore}
 use Rattle.runs.specs.Turns.{dueSide, isDue, Within, Onward, Turned, Waited}
 use Rattle.runs.proofs.DriveLaws.{stands-next, stands-start}
 
@@ -340,6 +340,21 @@ pub within-passed : (n : Count) (budget places : ℕ) (u v : Turns)
     → Within budget places u → Within budget places v
 within-passed n budget places u v e h =
     subst (Within budget places) (sym e) (record { made = h .made; used = h .used; sent = h .sent; received = h .received })
+
+-- a poll that is not rare was made whole
+pub looked-at : (d : Direction) (made used budget : ℕ) (script log log′ : List ℕ) (x : Polled) {r : Shown}
+    → whole d (getD script used 0) (getD script (used + 1) 0) (getD script (used + 2) 0) ≡ x → r ≡ shownBy x → isRare r ≡ false
+    → made + 4 ≤ budget → used + 4 ≤ length script
+    → log′ ≡ putPoll log made (getD script used 0) (getD script (used + 1) 0) (getD script (used + 2) 0)
+    → Looked d made used budget script log log′ r
+looked-at d made used budget script log log′ Failed w e n b a l =
+    absurd (let z : _≡_ {A = Bool} true false = sym (ap isRare e) ∙ n in let y : _≡_ {A = ℕ} 0 1 = cc in omega arith)
+looked-at d made used budget script log log′ (Next p) w e n b a l =
+    absurd (let z : _≡_ {A = Bool} true false = sym (ap isRare e) ∙ n in let y : _≡_ {A = ℕ} 0 1 = cc in omega arith)
+looked-at d made used budget script log log′ ready w e n b a l =
+    subst (Looked d made used budget script log log′) (sym e) (record { room = b; answers = a; shown = w; logged = l })
+looked-at d made used budget script log log′ unready w e n b a l =
+    subst (Looked d made used budget script log log′) (sym e) (record { room = b; answers = a; shown = w; logged = l })
 
 pub as-look : (d : Direction) (made used budget : ℕ) (script log log′ : List ℕ) (r r′ : Shown) → r ≡ r′
     → Looked d made used budget script log log′ r → Looked d made used budget script log log′ r′

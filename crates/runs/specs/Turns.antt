@@ -13,7 +13,7 @@ use Rattle.words.specs.declared.transaction.Direction.the-variants.{Tx, Rx}
 use Rattle.sequences.specs.declared.sequence.Sequence.{Sequence}
 use Rattle.machine.specs.declared.transfer.Transfer.{Transfer}
 use Rattle.machine.specs.declared.poll.Polled.{Polled}
-use Rattle.machine.specs.declared.poll.Polled.the-variants.{Ready as ready, Unready as unready}
+use Rattle.machine.specs.declared.poll.Polled.the-variants.{Failed, Next, Ready as ready, Unready as unready}
 use Rattle.machine.specs.Poll.{whole}
 use Rattle.machine.specs.Transfer.{atStart, turnAt}
 use Rattle.runs.specs.declared.drive.Frame.{Frame}
@@ -43,6 +43,18 @@ pub record Whole (d : Direction) (made used budget : ℕ) (script log log′ : L
   pub answers : used + 4 ≤ length script
   pub shown : whole d (getD script used 0) (getD script (used + 1) 0) (getD script (used + 2) 0) ≡ x
   pub logged : log′ ≡ putPoll log made (getD script used 0) (getD script (used + 1) 0) (getD script (used + 2) 0)
+
+-- what a poll shows, by what it comes to
+abbrev pub shownBy : Polled → Shown
+shownBy Failed = Rare
+shownBy (Next p) = Rare
+shownBy ready = Ready
+shownBy unready = Unready
+
+abbrev pub isRare : Shown → Bool
+isRare Rare = true
+isRare Unready = false
+isRare Ready = false
 
 abbrev pub Looked : Direction → ℕ → ℕ → ℕ → List ℕ → List ℕ → List ℕ → Shown → Type 0
 Looked d made used budget script log log′ Rare = log′ ≡ log

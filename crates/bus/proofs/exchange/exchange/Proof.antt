@@ -7,7 +7,8 @@ use Rattle.words.specs.Width.{widthBits}
 use Rattle.agreement.specs.Agreement.{seen}
 use Rattle.bus.specs.declared.station.Link.{Link}
 use Rattle.bus.specs.declared.trial.Outcome.{Outcome}
-use Rattle.bus.specs.Trial.{startOf, refusedBy}
+use Rattle.bus.specs.Begin.{refusedBy}
+use Rattle.bus.specs.Trial.{startOf}
 use Rattle.bus.specs.View.{stateOf}
 use Rattle.bus.proofs.BeginLaws.{small-exponents}
 use Rattle.bus.proofs.StationLaws.{same-pair}
@@ -33,7 +34,7 @@ returns c =
       ran =
           λ gr gw ar aw pg pa.
           ran-refused k (startOf (a .gate .board) gr gw) (startOf (a .antenna .board) ar aw) (a .events .now) (c .left .result)
-          (a .gate-received .now) (a .antenna-received .now)
+          (a .gate-words .now) (a .antenna-words .now)
           (ap₂ (refusedBy k (a .gate .board) (a .antenna .board)) (sym (pg .length)) (sym (pa .length))
           ∙ sym (told .ensures)
           ∙ c .before .if1 .taken)
@@ -90,12 +91,12 @@ returns-2 c =
           (r .last .1 .1 .1 .1 .1 .1 .1 .1 .1 .0)
           not-refused l
           (r .ensures .1 (startOf (a .gate .board) gr gw) (startOf (a .antenna .board) ar aw)
-          (linked k (a .gate) (a .antenna) gr gw ar aw (a .gate-sent .now) (a .antenna-sent .now) pg pa not-refused
+          (linked k (a .gate) (a .antenna) gr gw ar aw (a .gate-send .now) (a .antenna-send .now) pg pa not-refused
           (c₁₀ .before .link .ensures) (c₁₀ .link2 .ensures) (sizes .0) (sizes .1))
           (same-pair
-          (fresh-end (a .gate) (g .result) gr gw (a .gate-received .now) (g .ensures) (pg .length)
+          (fresh-end (a .gate) (g .result) gr gw (a .gate-words .now) (g .ensures) (pg .length)
           (c₁₄ .before .fresh-registers .ensures))
-          (fresh-end (a .antenna) (h .result) ar aw (a .antenna-received .now) (h .ensures) (pa .length)
+          (fresh-end (a .antenna) (h .result) ar aw (a .antenna-words .now) (h .ensures) (pa .length)
           (c₁₄ .fresh-registers2 .ensures)))
           );
     }

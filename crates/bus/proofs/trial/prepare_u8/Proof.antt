@@ -14,7 +14,7 @@ returns c =
     let a = c₄ .before .before .before .before .before .before .args in
     rw (c₄ .if1 .taken)
     (c .before .before .pack-words-u8 .ensures
-    ∙ ap (λ (o : BitOrder). laid (packWords o 8 (a .total) (a .read .now)) (a .sent-words .now))
+    ∙ ap (λ (o : BitOrder). laid (packWords o 8 (a .total) (a .read .now)) (a .send .now))
     (c₄ .before .bit-order .ensures))
 
 returns-2 : tie.Need-returns-2
@@ -23,7 +23,7 @@ returns-2 c =
     let a = c₄ .before .before .before .before .before .before .args in
     rw (c₄ .if1 .left)
     (c .before .before .pack-words-u82 .ensures
-    ∙ ap (λ (o : BitOrder). laid (packWords o 8 (a .total) (a .write .now)) (a .sent-words .now))
+    ∙ ap (λ (o : BitOrder). laid (packWords o 8 (a .total) (a .write .now)) (a .send .now))
     (c₄ .before .bit-order .ensures))
 
 pub prepare-u8-spec : {M : Type 1} → statement M
