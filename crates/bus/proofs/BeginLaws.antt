@@ -14,7 +14,7 @@ use Rattle.transfers.specs.Begin.{lengthPlan}
 use Rattle.agreement.specs.declared.board.Board.{Board}
 use Rattle.agreement.specs.Start.{Start, elementBits, total, unequal, unfitBy, transferOf}
 use Rattle.agreement.proofs.StartFacts.{either}
-use Rattle.bus.specs.Begin.{totalBy, refusedBy}
+use Rattle.bus.specs.Begin.{totalBy, unpairedBy}
 
 pub total-is : (s : Start) → total s ≡ totalBy (s .board .inplace) (length (s .read)) (length (s .write))
 total-is s = by-place (s .board .inplace)
@@ -43,22 +43,22 @@ begun-is s = by-place (s .board .inplace)
 -- NUMBER 9, of elements of k bits: m and n are the total lengths; `wk`, `wg`, `wa`, `og`, `oa` are the bits and the orders that the code
 -- has
 module _ (k : ℕ) (g a : Board) (m n : ℕ) {wk wg : ℕ} (xk : wk ≡ k) (xg : wg ≡ widthBits (g .width)) where
-  pub refused-buffers : (wg ≡ wk → ⊥) → true ≡ refusedBy k g a m n
+  pub refused-buffers : (wg ≡ wk → ⊥) → true ≡ unpairedBy k g a m n
   refused-buffers h = rw (ne-eqb (widthBits (g .width)) k (λ (e : widthBits (g .width) ≡ k). h (xg ∙ e ∙ sym xk)))
 
   module _ (ek : wg ≡ wk) where
     own : eqb (widthBits (g .width)) k ≡ true
     own = eq-eqb (widthBits (g .width)) k (sym xg ∙ ek ∙ xk)
 
-    pub refused-gate : 4 < g .exponent → true ≡ refusedBy k g a m n
+    pub refused-gate : 4 < g .exponent → true ≡ unpairedBy k g a m n
     refused-gate h = rw (own, lt-ltb 4 (g .exponent) h)
 
     module _ (eg : g .exponent ≤ 4) where
-      pub refused-antenna : 4 < a .exponent → true ≡ refusedBy k g a m n
+      pub refused-antenna : 4 < a .exponent → true ≡ unpairedBy k g a m n
       refused-antenna h = rw (own, le-ltb 4 (g .exponent) eg, lt-ltb 4 (a .exponent) h)
 
       module _ (ea : a .exponent ≤ 4) {wa : ℕ} (xa : wa ≡ widthBits (a .width)) where
-        pub refused-width : (wg ≡ wa → ⊥) → true ≡ refusedBy k g a m n
+        pub refused-width : (wg ≡ wa → ⊥) → true ≡ unpairedBy k g a m n
         refused-width h =
             rw (
               own,
@@ -69,7 +69,7 @@ module _ (k : ℕ) (g a : Board) (m n : ℕ) {wk wg : ℕ} (xk : wk ≡ k) (xg :
             )
 
         module _ (w : wg ≡ wa) {og oa : ℕ} (yg : og ≡ lsbfOf (g .driver .order)) (ya : oa ≡ lsbfOf (a .driver .order)) where
-          pub refused-order : (og ≡ oa → ⊥) → true ≡ refusedBy k g a m n
+          pub refused-order : (og ≡ oa → ⊥) → true ≡ unpairedBy k g a m n
           refused-order h =
               rw (
                 own,
@@ -80,7 +80,7 @@ module _ (k : ℕ) (g a : Board) (m n : ℕ) {wk wg : ℕ} (xk : wk ≡ k) (xg :
                     (λ (e : lsbfOf (g .driver .order) ≡ lsbfOf (a .driver .order)). h (yg ∙ e ∙ sym ya)),
               )
 
-          pub refused-length : og ≡ oa → not (eqb m n) ≡ refusedBy k g a m n
+          pub refused-length : og ≡ oa → not (eqb m n) ≡ unpairedBy k g a m n
           refused-length h =
               rw (
                 own,
@@ -91,7 +91,7 @@ module _ (k : ℕ) (g a : Board) (m n : ℕ) {wk wg : ℕ} (xk : wk ≡ k) (xg :
               )
 
 -- boards that are not refused have FIFOs of at most 16 words
-pub small-exponents : (k : ℕ) (g a : Board) (m n : ℕ) → refusedBy k g a m n ≡ false → (g .exponent ≤ 4) × (a .exponent ≤ 4)
+pub small-exponents : (k : ℕ) (g a : Board) (m n : ℕ) → unpairedBy k g a m n ≡ false → (g .exponent ≤ 4) × (a .exponent ≤ 4)
 small-exponents k g a m n h =
     let alike =
     unequal (widthBits (g .width))

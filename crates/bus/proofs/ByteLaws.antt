@@ -17,7 +17,7 @@ use Rattle.agreement.specs.Tally.{tally}
 use Rattle.agreement.specs.Agreement.{Seen, seen, OkTwice, Plain}
 use Rattle.agreement.specs.Codes.{eventOf, eventsOf}
 use Rattle.agreement.proofs.Demand3.{finishes}
-use Rattle.bus.specs.Trial.{startOf, refused, TrialLeft, trialOf}
+use Rattle.bus.specs.Trial.{startOf, unpaired, TrialLeft, trialOf}
 use Rattle.bus.proofs.TrialLaws.{not-refused}
 
 -- A BYTE FOR EVERY EVENT
@@ -97,7 +97,7 @@ module _ (k : ℕ) (g a : Board) (gateRead gateWrite antennaRead antennaWrite : 
   accepts true x y e h = absurd (omega (arith, e, h))
   accepts false x y e h = refl
 
-  module _ (fits : refused k gateStart antennaStart ≡ false) (bytes : List ℕ) where
+  module _ (fits : unpaired k gateStart antennaStart ≡ false) (bytes : List ℕ) where
     number-is : answered bytes .number ≡ 0
     number-is = rw fits
 
@@ -111,7 +111,7 @@ module _ (k : ℕ) (g a : Board) (gateRead gateWrite antennaRead antennaWrite : 
       → tally Gate gateStart antennaStart (eventsOf bytes) .flags + tally Antenna gateStart antennaStart (eventsOf bytes) .flags ≡ 0
       → accepted gateStart ≡ true → 1 < 2 ^ (g .exponent) → 1 < 2 ^ (a .exponent) → Reaches bytes
   reaches bytes zero-number calm ok eg ea =
-      let fits = accepts (refused k gateStart antennaStart) _ _ refl zero-number in
+      let fits = accepts (unpaired k gateStart antennaStart) _ _ refl zero-number in
       let f = finishes gateStart antennaStart (not-refused k gateStart antennaStart fits .1) (eventsOf bytes) calm ok eg ea in
       let more = bytesOf (f .more) in
       let same : eventsOf bytes ++ f .more ≡ eventsOf (bytes ++ more) =

@@ -1,6 +1,6 @@
 -- The pair entry, from what its parts promise.
 -- Assumes nothing.
-use Prim.Native.Nat.{ℕ, zero, suc, _*_, _≤_}
+use Prim.Native.Nat.{ℕ, _*_, _≤_}
 use mathlib.Core.Bool.{Bool, true, false, cond, _||_, _&&_}
 use mathlib.Core.List.{List, []}
 use mathlib.Core.Path.{_≡_, refl, sym, ap, ap₂, _∙_, subst}
@@ -17,7 +17,6 @@ use Rattle.words.specs.Width.{widthBits}
 use Rattle.words.specs.Word.{laid}
 use Rattle.words.proofs.BufferLaws.{holds-one}
 use Rattle.words.proofs.WordLaws.{Elements}
-use Rattle.words.proofs.CommandLaws.{accepted-between}
 use Rattle.words.proofs.LaidLaws.{in-place-word, packed-at}
 use Rattle.machine.specs.declared.flush.Flush.the-variants.{Status}
 use Rattle.machine.specs.declared.transfer.Transfer.{Transfer}
@@ -25,6 +24,7 @@ use Rattle.runs.specs.Drive.{wordIn}
 use Rattle.transfers.specs.declared.begin.Ways.the-variants.{Both}
 use Rattle.transfers.specs.Transfers.{Plan, begun, separatePlan, inPlacePlan}
 use Rattle.transfers.specs.Begin.{lengthPlan}
+use Rattle.transfers.proofs.TransferLaws.{accepted-words, blank-at}
 use Rattle.agreement.specs.declared.board.Board.{Board}
 use Rattle.agreement.specs.Start.{Start, elementBits, started, total, frameWords, accepted, unequal, unfit, job}
 use Rattle.agreement.specs.End.{freshWire, freshRegisters, End, end, freshEnd}
@@ -39,19 +39,14 @@ use Rattle.bus.specs.declared.station.Link.{Link}
 use Rattle.bus.specs.declared.station.Station.{Station}
 use Rattle.bus.specs.declared.trial.Outcome.{Outcome}
 use Rattle.bus.specs.Begin.{totalBy}
-use Rattle.bus.specs.Held.{endOf, linkJob, LinkOf, Linked, Fresh, linkOf, pairOf, Prepared, endsOf, Ran}
+use Rattle.bus.specs.Held.{endOf, linkJob, LinkFits, Linked, Fresh, linkOf, pairOf, Prepared, Ran}
 use Rattle.bus.specs.View.{stateOf}
-use Rattle.bus.specs.Trial.{startOf, refused, TrialLeft, trialLeft, trialOf, Tried}
+use Rattle.bus.specs.Trial.{startOf, unpaired, TrialLeft, trialLeft, trialOf, Tried}
 use Rattle.bus.proofs.BeginLaws.{total-is, begun-is}
 
 -- LINKS
-blank : (n j : ℕ) → getD (replicate {A = ℕ} n 0) j 0 ≡ 0
-blank zero j = refl
-blank (suc n) zero = refl
-blank (suc n) (suc j) = blank n j
-
--- an accepted frame has at most 128 FIFO words
-pub few-words : (w : Width) (n : ℕ) → (eqb n 0 || frameAccepted (widthBits w * n)) ≡ true → wordCount (widthBits w) n ≤ 128
+-- an accepted frame has at most 128 FIFO words, an empty one none
+few-words : (w : Width) (n : ℕ) → (eqb n 0 || frameAccepted (widthBits w * n)) ≡ true → wordCount (widthBits w) n ≤ 128
 few-words w n = by-test (eqb n 0) refl w
   where
     none : (w : Width) → n ≡ 0 → wordCount (widthBits w) n ≤ 128
@@ -59,14 +54,9 @@ few-words w n = by-test (eqb n 0) refl w
     none U16 e = omega arith
     none U32 e = omega arith
 
-    some : (w : Width) → (8 ≤ widthBits w * n) × (widthBits w * n ≤ 4096) → wordCount (widthBits w) n ≤ 128
-    some U8 h = omega (arith, h .1)
-    some U16 h = omega (arith, h .1)
-    some U32 h = omega (arith, h .1)
-
     by-test : (b : Bool) → eqb n 0 ≡ b → (w : Width) → (b || frameAccepted (widthBits w * n)) ≡ true → wordCount (widthBits w) n ≤ 128
     by-test true e w h = none w (eqb-true n 0 e)
-    by-test false e w h = some w (accepted-between (widthBits w * n) h)
+    by-test false e w h = accepted-words w n h
 
 -- the link of a board that enters with these buffers: its words where they are sent, and room for those received
 module _ (b : Entrant) (read write send : List ℕ) (ready : Prepared (widthBits (b .board .width)) b read write send) where
@@ -80,7 +70,7 @@ module _ (b : Entrant) (read write send : List ℕ) (ready : Prepared (widthBits
   packed ok i =
       ap (λ (xs : List ℕ). getD xs i 0)
       (ready .packed ∙ ap (λ (n : ℕ). laid (packWords o (elementBits s) n (started s)) (replicate {A = ℕ} 128 0)) (ready .length))
-      ∙ packed-at o (elementBits s) (total s) i (started s) (replicate {A = ℕ} 128 0) (holds-one (b .board .width)) (blank 128)
+      ∙ packed-at o (elementBits s) (total s) i (started s) (replicate {A = ℕ} 128 0) (holds-one (b .board .width)) (blank-at 128)
       (subst (λ (m : ℕ). frameWords s ≤ m) (sym (length-replicate {A = ℕ} 128 0)) (few-words (b .board .width) (total s) ok))
 
   abbrev planBy : Bool → Plan
@@ -99,7 +89,7 @@ module _ (b : Entrant) (read write send : List ℕ) (ready : Prepared (widthBits
           ∙ sym (in-place-word o (elementBits s) (length read) i rs read refl)
       by-place false h = h
 
-  pub link-of : LinkOf s (linkOf b) send 128
+  pub link-of : LinkFits s (linkOf b) send 128
   link-of = record { exponent = refl; words = word-sent; room = λ ok. few-words (b .board .width) (total s) ok }
 
 -- AT FRESH
@@ -113,14 +103,14 @@ fresh-end b s read write words {registers} f en eg =
     (ap (λ (n : ℕ). begun k (b .board .driver) (lengthPlan k Both n)) en ∙ sym (begun-is (startOf (b .board) read write))) eg
 
 -- NUMBER 9: boards that are not refused have the width of their buffers, and fit
-pub not-refused : (k : ℕ) (s t : Start) → refused k s t ≡ false → (elementBits s ≡ k) × (unfit s t ≡ false)
+pub not-refused : (k : ℕ) (s t : Start) → unpaired k s t ≡ false → (elementBits s ≡ k) × (unfit s t ≡ false)
 not-refused k s t h =
     let both = either (unequal (elementBits s) k) (unfit s t) h in
     (equal (elementBits s) k (both .0), both .1)
 
 -- both links, of boards that are not refused
 module _ (k : ℕ) (g a : Entrant) (gr gw ar aw gs hs : List ℕ) (pg : Prepared k g gr gw gs) (pa : Prepared k a ar aw hs)
-    (h : refused k (startOf (g .board) gr gw) (startOf (a .board) ar aw) ≡ false) where
+    (h : unpaired k (startOf (g .board) gr gw) (startOf (a .board) ar aw) ≡ false) where
   abbrev gateStart : Start
   gateStart = startOf (g .board) gr gw
 
@@ -130,10 +120,10 @@ module _ (k : ℕ) (g a : Entrant) (gr gw ar aw gs hs : List ℕ) (pg : Prepared
   both-fit : (elementBits gateStart ≡ k) × (unfit gateStart antennaStart ≡ false)
   both-fit = not-refused k gateStart antennaStart h
 
-  gate-link : LinkOf gateStart (linkOf g) gs 128
+  gate-link : LinkFits gateStart (linkOf g) gs 128
   gate-link = link-of g gr gw gs (subst (λ (n : ℕ). Prepared n g gr gw gs) (sym (both-fit .0)) pg)
 
-  antenna-link : LinkOf antennaStart (linkOf a) hs 128
+  antenna-link : LinkFits antennaStart (linkOf a) hs 128
   antenna-link =
       link-of a ar aw hs
       (subst (λ (n : ℕ). Prepared n a ar aw hs) (sym (both-fit .0) ∙ fit gateStart antennaStart (both-fit .1) .width) pa)
@@ -141,15 +131,15 @@ module _ (k : ℕ) (g a : Entrant) (gr gw ar aw gs hs : List ℕ) (pg : Prepared
   pub linked : {gl al : Link} {m n : ℕ} → gl ≡ linkOf g → al ≡ linkOf a → m ≡ 128 → n ≡ 128 → Linked gateStart antennaStart gl al gs hs m n
   linked {gl} {al} {m} {n} eg ea em en = record {
     fits = both-fit .1;
-    gate = subst (λ (i : ℕ). LinkOf gateStart gl gs i) (sym em) (subst (λ (l : Link). LinkOf gateStart l gs 128) (sym eg) gate-link);
+    gate = subst (λ (i : ℕ). LinkFits gateStart gl gs i) (sym em) (subst (λ (l : Link). LinkFits gateStart l gs 128) (sym eg) gate-link);
     antenna =
-        subst (λ (i : ℕ). LinkOf antennaStart al hs i) (sym en)
-        (subst (λ (l : Link). LinkOf antennaStart l hs 128) (sym ea) antenna-link);
+        subst (λ (i : ℕ). LinkFits antennaStart al hs i) (sym en)
+        (subst (λ (l : Link). LinkFits antennaStart l hs 128) (sym ea) antenna-link);
   }
 
 -- WHAT THE RUN OVER WORDS LEAVES, of boards that are refused and of boards that are not
 module _ (k : ℕ) (s t : Start) (events : List ℕ) (r : Outcome) (gateWords antennaWords : List ℕ) where
-  pub ran-refused : refused k s t ≡ true → r .number ≡ 9 → stateOf (r .gate) ≡ seen (freshEnd s) → stateOf (r .antenna) ≡ seen (freshEnd t)
+  pub ran-refused : unpaired k s t ≡ true → r .number ≡ 9 → stateOf (r .gate) ≡ seen (freshEnd s) → stateOf (r .antenna) ≡ seen (freshEnd t)
       → r .gate .station .received ≡ 0 → r .antenna .station .received ≡ 0 → Ran k s t events r gateWords antennaWords
   ran-refused h n x y zg za = record {
     number = n ∙ rw h;
@@ -159,7 +149,7 @@ module _ (k : ℕ) (s t : Start) (events : List ℕ) (r : Outcome) (gateWords an
     antennaReceived = rw h (ap (λ (i : ℕ). take i antennaWords) za);
   }
 
-  pub ran-events : (stations : Stations) (gateRegisters antennaRegisters : List ℕ) → refused k s t ≡ false
+  pub ran-events : (stations : Stations) (gateRegisters antennaRegisters : List ℕ) → unpaired k s t ≡ false
       → r ≡ record {
         number = 0;
         gate = record { station = stations .gate; registers = gateRegisters };
@@ -240,7 +230,7 @@ module _ (k : ℕ) (g a : Board) (gr gw ar aw events : List ℕ) (r : Outcome) (
   abbrev ends : Bool → Pair
   ends b = cond b (freshPair ours theirs) (pairAfter ours theirs (eventsOf events))
 
-  left-refused : refused k ours theirs ≡ true → trialLeft r gl al ≡ trialOf k g a gr gw ar aw events
+  left-refused : unpaired k ours theirs ≡ true → trialLeft r gl al ≡ trialOf k g a gr gw ar aw events
   left-refused h =
       let nine : r .number ≡ 9 = ran .number ∙ ap (λ (b : Bool). cond b 9 0) h in
       left-eq nine (ran .gate ∙ ap (λ (b : Bool). seen (ends b .gate)) h) (ran .antenna ∙ ap (λ (b : Bool). seen (ends b .antenna)) h)
@@ -248,7 +238,7 @@ module _ (k : ℕ) (g a : Board) (gr gw ar aw events : List ℕ) (r : Outcome) (
       (buffer-kept k m oa ar (ran .antennaReceived ∙ ap (λ (b : Bool). ends b .antenna .received) h) ha)
       ∙ rw h
 
-  module _ (h : refused k ours theirs ≡ false) where
+  module _ (h : unpaired k ours theirs ≡ false) where
     fits : unfit ours theirs ≡ false
     fits = not-refused k ours theirs h .1
 
@@ -280,9 +270,9 @@ module _ (k : ℕ) (g a : Board) (gr gw ar aw events : List ℕ) (r : Outcome) (
 
   -- ALL OF IT
   pub tried : Elements k gr → Elements k gw → Elements k ar → Elements k aw → Tried k g a gr gw ar aw events r gl al
-  tried small-gr small-gw small-ar small-aw = by-test (refused k ours theirs) refl
+  tried small-gr small-gw small-ar small-aw = by-test (unpaired k ours theirs) refl
     where
-      by-test : (b : Bool) → refused k ours theirs ≡ b → Tried k g a gr gw ar aw events r gl al
+      by-test : (b : Bool) → unpaired k ours theirs ≡ b → Tried k g a gr gw ar aw events r gl al
       by-test true h =
           record {
             same = left-refused h;

@@ -1,4 +1,4 @@
--- What the code begins with, of lengths.
+-- The total length, and number 9, of the buffers' lengths alone, as the code has them.
 -- Assumes nothing.
 use Prim.Native.Nat.{ℕ, max}
 use mathlib.Core.Bool.{Bool, cond, _||_}
@@ -11,5 +11,5 @@ abbrev pub totalBy : Bool → ℕ → ℕ → ℕ
 totalBy inplace read write = cond inplace read (max read write)
 
 -- number 9, of the total lengths
-abbrev pub refusedBy : ℕ → Board → Board → ℕ → ℕ → Bool
-refusedBy k g a gateTotal antennaTotal = unequal (widthBits (g .width)) k || unfitBy g a gateTotal antennaTotal
+abbrev pub unpairedBy : ℕ → Board → Board → ℕ → ℕ → Bool
+unpairedBy k g a gateTotal antennaTotal = unequal (widthBits (g .width)) k || unfitBy g a gateTotal antennaTotal

@@ -36,7 +36,7 @@ use Rattle.bus.specs.declared.station.Link.{Link}
 use Rattle.bus.specs.declared.station.Station.{Station}
 use Rattle.bus.specs.declared.trial.Outcome.{Outcome}
 use Rattle.bus.specs.View.{queueOf, wireOf, stateOf}
-use Rattle.bus.specs.Trial.{startOf, refused}
+use Rattle.bus.specs.Trial.{startOf, unpaired}
 
 -- a FIFO has 16 places and counts no more words
 pub record Sized (f : Fifo) : Type 0 where
@@ -126,7 +126,7 @@ linkOf b =
     record { exponent = b .board .exponent; frame = record { width = b .board .width; total = b .total; inplace = b .board .inplace } }
 
 -- a link and packed words of a board: its exponent, its words where they are sent, and room for the words that it receives
-pub record LinkOf (s : Start) (l : Link) (send : List ℕ) (places : ℕ) : Type 0 where
+pub record LinkFits (s : Start) (l : Link) (send : List ℕ) (places : ℕ) : Type 0 where
   pub exponent : l .exponent ≡ job s .exponent
   pub words : accepted s ≡ true → (rs : List ℕ) (i : ℕ) → linkJob l send .words rs i ≡ job s .words rs i
   pub room : accepted s ≡ true → frameWords s ≤ places
@@ -134,8 +134,8 @@ pub record LinkOf (s : Start) (l : Link) (send : List ℕ) (places : ℕ) : Type
 -- two boards that fit, each with its link
 pub record Linked (g a : Start) (gl al : Link) (gateSend antennaSend : List ℕ) (gatePlaces antennaPlaces : ℕ) : Type 0 where
   pub fits : unfit g a ≡ false
-  pub gate : LinkOf g gl gateSend gatePlaces
-  pub antenna : LinkOf a al antennaSend antennaPlaces
+  pub gate : LinkFits g gl gateSend gatePlaces
+  pub antenna : LinkFits a al antennaSend antennaPlaces
 
 -- a board that enters a trial of elements of k bits with these buffers: its total length, and the words packed of what it starts with
 pub record Prepared (k : ℕ) (b : Entrant) (read write send : List ℕ) : Type 0 where
@@ -145,18 +145,18 @@ pub record Prepared (k : ℕ) (b : Entrant) (read write send : List ℕ) : Type 
 
 -- both ends after the events; boards that are refused stay at fresh
 abbrev pub endsOf : ℕ → Start → Start → List ℕ → Pair
-endsOf k s t events = cond (refused k s t) (freshPair s t) (pairAfter s t (eventsOf events))
+endsOf k s t events = cond (unpaired k s t) (freshPair s t) (pairAfter s t (eventsOf events))
 
 -- what the run over FIFO words leaves of them
 pub record Ran (k : ℕ) (s t : Start) (events : List ℕ) (r : Outcome) (gateWords antennaWords : List ℕ) : Type 0 where
-  pub number : r .number ≡ cond (refused k s t) 9 0
+  pub number : r .number ≡ cond (unpaired k s t) 9 0
   pub gate : stateOf (r .gate) ≡ seen (endsOf k s t events .gate)
   pub antenna : stateOf (r .antenna) ≡ seen (endsOf k s t events .antenna)
   pub gateReceived : take (r .gate .station .received) gateWords ≡ endsOf k s t events .gate .received
   pub antennaReceived : take (r .antenna .station .received) antennaWords ≡ endsOf k s t events .antenna .received
 
 -- of two boards that enter, whatever buffers their words were packed from
-pub record Exchanged (k : ℕ) (g a : Entrant) (gateSend antennaSend events : List ℕ) (r : Outcome) (gateWords antennaWords : List ℕ)
+pub record PairRun (k : ℕ) (g a : Entrant) (gateSend antennaSend events : List ℕ) (r : Outcome) (gateWords antennaWords : List ℕ)
     : Type 0 where
   pub gatePlaces : r .gate .station .received ≤ 128
   pub antennaPlaces : r .antenna .station .received ≤ 128

@@ -17,9 +17,10 @@ use Rattle.bus.specs.View.{stateOf}
 abbrev pub startOf : Board → List ℕ → List ℕ → Start
 startOf b read write = record { board = b; read = read; write = write }
 
--- number 9: boards that do not fit, or, "unequal width" too, that are not of the buffers' width
-abbrev pub refused : ℕ → Start → Start → Bool
-refused k g a = unequal (elementBits g) k || unfit g a
+-- number 9: the boards do not fit ("a FIFO exponent over 4, or unequal width, order or total length"), or the gate's width is not that of
+-- the buffers, and then, where the boards fit, neither is the antenna's
+abbrev pub unpaired : ℕ → Start → Start → Bool
+unpaired k g a = unequal (elementBits g) k || unfit g a
 
 -- what a trial leaves: its number, both ends, and both read buffers
 pub record TrialLeft : Type 0 where
@@ -45,7 +46,7 @@ abbrev pub trialOf : ℕ → Board → Board → List ℕ → List ℕ → List 
 trialOf k g a gateRead gateWrite antennaRead antennaWrite events =
     let s = startOf g gateRead gateWrite in
     let t = startOf a antennaRead antennaWrite in
-    cond (refused k s t)
+    cond (unpaired k s t)
     (record { number = 9; gate = seen (freshEnd s); antenna = seen (freshEnd t); gateRead = gateRead; antennaRead = antennaRead })
     (let p = pairAfter s t (eventsOf events) in
     record {

@@ -2,7 +2,7 @@
 ghost use mathlib.Core.Path.{_≡_};
 ghost use Rattle.words.specs.Width.{widthBits};
 ghost use Rattle.agreement.specs.End.{freshRegisters};
-ghost use Rattle.bus.specs.Begin.{totalBy, refusedBy};
+ghost use Rattle.bus.specs.Begin.{totalBy, unpairedBy};
 ghost use Rattle.bus.specs.Held.{Fresh, linkOf};
 use crate::port::Port;
 use crate::station::Link;
@@ -34,8 +34,8 @@ pub(crate) fn total_of(inplace: bool, read: usize, write: usize) -> usize
 }
 
 // Number 9, in a trial of that width.
-pub(crate) fn is_refused(width: Width, gate: Entrant, antenna: Entrant) -> bool
-    ensures { λ r. ⌜ r ≡ refusedBy (widthBits width) (gate .board) (antenna .board) (gate .total) (antenna .total) ⌝ }
+pub(crate) fn is_unpaired(width: Width, gate: Entrant, antenna: Entrant) -> bool
+    ensures { λ r. ⌜ r ≡ unpairedBy (widthBits width) (gate .board) (antenna .board) (gate .total) (antenna .total) ⌝ }
 {
     let ours = gate.board;
     let theirs = antenna.board;

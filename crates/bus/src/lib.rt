@@ -7,14 +7,14 @@
 //   Station     End, but for received words and registers             endOf; as a trial shows it stationSeen
 //   Stations    Pair: the gate's end and the antenna's                pairOf
 //   Link        Job: what an end goes by                              linkJob
-//   Entrant     Start: a board and what it starts with                Prepared
+//   Entrant     of a Start its board and its total length             Prepared
 //   EndState    Seen: what can be seen of an end                      stateOf
 //   Outcome     TrialLeft: what a trial leaves                        trialLeft
 mod begin;
 mod clock;
 mod event;
-mod exchange;
 pub mod fifo;
+mod pair;
 pub mod port;
 mod register;
 mod run;

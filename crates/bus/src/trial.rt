@@ -6,7 +6,7 @@ ghost use Rattle.agreement.specs.Start.{started};
 ghost use Rattle.bus.specs.Trial.{startOf, Tried};
 use crate::begin::Entrant;
 use crate::begin::total_of;
-use crate::exchange::exchange;
+use crate::pair::run_pair;
 use crate::station::Station;
 use agreement::board::Board;
 use words::buffer::pack_words_u8;
@@ -33,9 +33,10 @@ pub struct Outcome {
 
 // The words that a board sends, packed at the start: of its one buffer in place, else of its write buffer.
 fn prepare_u8(board: Board, total: usize, read: &[u8], write: &[u8], send: &mut [u32])
-    ensures { λ _. ⌜ now («send» .exit)
-        ≡ laid (packWords (board .driver .order) 8 total (started (startOf board (now (read .entry)) (now (write .entry)))))
-        (now («send» .entry)) ⌝ }
+    ensures { λ _. ⌜ now (send .exit)
+        ≡ laid
+        (packWords (board .driver .order) 8 total (started (startOf board (now (read .entry)) (now (write .entry)))))
+        (now (send .entry)) ⌝ }
 {
     let driver = board.driver;
     let order = driver.bit_order();
@@ -48,9 +49,10 @@ fn prepare_u8(board: Board, total: usize, read: &[u8], write: &[u8], send: &mut 
 
 // The words that a board sends, packed at the start: of its one buffer in place, else of its write buffer.
 fn prepare_u16(board: Board, total: usize, read: &[u16], write: &[u16], send: &mut [u32])
-    ensures { λ _. ⌜ now («send» .exit)
-        ≡ laid (packWords (board .driver .order) 16 total (started (startOf board (now (read .entry)) (now (write .entry)))))
-        (now («send» .entry)) ⌝ }
+    ensures { λ _. ⌜ now (send .exit)
+        ≡ laid
+        (packWords (board .driver .order) 16 total (started (startOf board (now (read .entry)) (now (write .entry)))))
+        (now (send .entry)) ⌝ }
 {
     let driver = board.driver;
     let order = driver.bit_order();
@@ -63,9 +65,10 @@ fn prepare_u16(board: Board, total: usize, read: &[u16], write: &[u16], send: &m
 
 // The words that a board sends, packed at the start: of its one buffer in place, else of its write buffer.
 fn prepare_u32(board: Board, total: usize, read: &[u32], write: &[u32], send: &mut [u32])
-    ensures { λ _. ⌜ now («send» .exit)
-        ≡ laid (packWords (board .driver .order) 32 total (started (startOf board (now (read .entry)) (now (write .entry)))))
-        (now («send» .entry)) ⌝ }
+    ensures { λ _. ⌜ now (send .exit)
+        ≡ laid
+        (packWords (board .driver .order) 32 total (started (startOf board (now (read .entry)) (now (write .entry)))))
+        (now (send .entry)) ⌝ }
 {
     let driver = board.driver;
     let order = driver.bit_order();
@@ -112,7 +115,7 @@ pub fn trial_u8(
         board: antenna,
         total: antenna_total,
     };
-    let outcome = exchange(
+    let outcome = run_pair(
         Width::U8,
         ours,
         theirs,
@@ -176,7 +179,7 @@ pub fn trial_u16(
         board: antenna,
         total: antenna_total,
     };
-    let outcome = exchange(
+    let outcome = run_pair(
         Width::U16,
         ours,
         theirs,
@@ -240,7 +243,7 @@ pub fn trial_u32(
         board: antenna,
         total: antenna_total,
     };
-    let outcome = exchange(
+    let outcome = run_pair(
         Width::U32,
         ours,
         theirs,

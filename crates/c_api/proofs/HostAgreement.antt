@@ -4,7 +4,7 @@
 use Prim.Native.Nat.{ℕ, _+_, _/_, _<_, _≤_}
 use mathlib.Core.Bool.{Bool, true, false, cond, _||_}
 use mathlib.Core.List.{List, _++_}
-use mathlib.Core.Path.{_≡_, refl, sym, ap, ap₂, _∙_, subst}
+use mathlib.Core.Path.{_≡_, refl, sym, ap, ap₂, _∙_}
 use native.Mathlib.Omega.{arith}
 use lib.ListN.{length, getD, length-append, List·getD-append}
 use lib.Seq.{getD-append-add}
@@ -13,12 +13,11 @@ use Rattle.words.specs.declared.width.Width.the-variants.{U8, U16, U32}
 use Rattle.words.specs.Width.{widthBits}
 use Rattle.words.proofs.LaidLaws.{laid-at}
 use Rattle.words.proofs.WordLaws.{Elements}
-use Rattle.agreement.specs.declared.board.Board.{Board}
 use Rattle.agreement.specs.Start.{Start, unequal, unfit}
 use Rattle.agreement.specs.Agreement.{Seen, OkTwice, Holds, Agreement}
 use Rattle.agreement.specs.Codes.{eventsOf}
 use Rattle.agreement.proofs.Demand3.{agreement}
-use Rattle.bus.specs.Trial.{startOf, refused, TrialLeft, trialOf}
+use Rattle.bus.specs.Trial.{startOf, unpaired, TrialLeft, trialOf}
 use Rattle.c_api.specs.HostBus.{boardOf, stateWords, stateLeft, HostTrial, trialBy}
 use Rattle.c_api.proofs.AnswerLaws.{ok-of-numbers}
 use Rattle.c_api.proofs.PairLaws.{length-state}
@@ -59,8 +58,8 @@ module _ (w : Width) (gateDriver antennaDriver inplace gateExponent antennaExpon
       → Elements (widthBits w) antennaWrite → left .number ≡ 0
       → Agreement gateStart antennaStart (eventsOf events) (outcome .gate) (outcome .antenna) (left .gateRead) (left .antennaRead)
   host-agreement gr gw ar aw zero-number =
-      let taken : refused (widthBits w) gateStart antennaStart ≡ false =
-      fits-by (refused (widthBits w) gateStart antennaStart) _ _ refl zero-number in
+      let taken : unpaired (widthBits w) gateStart antennaStart ≡ false =
+      fits-by (unpaired (widthBits w) gateStart antennaStart) _ _ refl zero-number in
       rw taken
       (agreement gateStart antennaStart (fits-at w (unfit gateStart antennaStart) taken)
       (small (gateStart .board .inplace) gateRead gateWrite gr gw)

@@ -74,7 +74,8 @@ ofTrial t state = hostTrial (t .number) (t .gateRead) (t .antennaRead) (stateLef
 
 -- bit 0 of `inplace` is the gate's, bit 1 the antenna's
 abbrev pub trialBy : Width → ℕ → ℕ → ℕ → ℕ → ℕ → List ℕ → List ℕ → List ℕ → List ℕ → List ℕ → List ℕ → HostTrial
-trialBy width gateDriver antennaDriver inplace gateExponent antennaExponent gateRead gateWrite antennaRead antennaWrite events =
+trialBy width gateDriver antennaDriver inplace gateExponent antennaExponent gateRead gateWrite antennaRead antennaWrite events state =
     ofTrial
     (trialOf (widthBits width) (boardOf width gateDriver inplace gateExponent) (boardOf width antennaDriver (inplace / 2) antennaExponent)
     gateRead gateWrite antennaRead antennaWrite events)
+    state

@@ -4,7 +4,7 @@
 use Prim.Native.Nat.{ℕ, zero, suc, _+_, _<_}
 use mathlib.Core.Bool.{Bool, true, false, cond}
 use mathlib.Core.List.{List, [], _∷_}
-use mathlib.Core.Path.{_≡_, refl, sym, ap, _∙_, subst}
+use mathlib.Core.Path.{_≡_, refl, subst}
 use native.Mathlib.Omega.{arith}
 use lib.Dec.{ltb, leb}
 use lib.ListN.{length, getD}
@@ -15,7 +15,7 @@ use Rattle.sequences.specs.declared.driver.Lpspi.{Lpspi}
 use Rattle.sequences.specs.declared.sequence.Move.{Move}
 use Rattle.sequences.specs.declared.sequence.Sequence.{Sequence}
 use Rattle.sequences.specs.Sequence.{moveAt}
-use Rattle.sequences.specs.Recovery.{recovery, recoveryMove, recoveryAfter, recovered}
+use Rattle.sequences.specs.Recovery.{recovery, recoveryMove, recoveryAfter}
 use Rattle.words.specs.declared.transaction.LpspiError.the-variants.{Fifo}
 use Rattle.sequences.specs.declared.access.Ending.the-variants.{Ok, Err}
 use Rattle.machine.specs.declared.poll.Poll.the-variants.{Status}

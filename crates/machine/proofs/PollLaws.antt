@@ -8,7 +8,7 @@ use Rattle.words.specs.declared.transaction.Direction.{Direction}
 use Rattle.machine.specs.declared.poll.Poll.the-variants.{Status, Sizes, Counts}
 use Rattle.machine.specs.declared.poll.Polled.{Polled}
 use Rattle.machine.specs.declared.poll.Polled.the-variants.{Failed, Next, Ready, Unready}
-use Rattle.machine.specs.Poll.{failed, polled, onward, fromSizes, whole}
+use Rattle.machine.specs.Poll.{failed, polled, pollOnward, fromSizes, whole}
 
 -- the first two answers let it go on, and the third settles it
 pub record Settled (d : Direction) (status param counts : ℕ) (x : Polled) : Type 0 where
@@ -20,7 +20,7 @@ module _ (d : Direction) (status param counts : ℕ) where
   settled : (x : Polled) → (Failed ≡ x → ⊥) → whole d status param counts ≡ x → Settled d status param counts x
   settled x n = by-test (failed d status) refl
     where
-      by-test : (b : Bool) → failed d status ≡ b → onward (cond b Failed (Next Sizes)) (fromSizes d param counts) ≡ x
+      by-test : (b : Bool) → failed d status ≡ b → pollOnward (cond b Failed (Next Sizes)) (fromSizes d param counts) ≡ x
           → Settled d status param counts x
       by-test true e h = absurd (n h)
       by-test false e h = record { first = rw e; second = refl; third = h }

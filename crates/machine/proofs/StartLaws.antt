@@ -1,4 +1,4 @@
--- A transfer that stands at its start is one that has just begun.
+-- A transfer that stands at its start is like one that has just begun.
 -- Assumes nothing.
 use Prim.Native.Nat.{ℕ}
 use mathlib.Core.Bool.{Bool, true, false, _&&_}

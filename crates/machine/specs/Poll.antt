@@ -44,16 +44,16 @@ polled d Sizes v = Next (Counts v)
 polled d (Counts param) v = cond (ready d param v) Ready Unready
 
 -- a poll goes on only where an answer neither fails nor settles it
-abbrev pub onward : Polled → Polled → Polled
-onward Failed next = Failed
-onward (Next p) next = next
-onward Ready next = Ready
-onward Unready next = Unready
+abbrev pub pollOnward : Polled → Polled → Polled
+pollOnward Failed next = Failed
+pollOnward (Next p) next = next
+pollOnward Ready next = Ready
+pollOnward Unready next = Unready
 
 -- from the read of PARAM on
 abbrev pub fromSizes : Direction → ℕ → ℕ → Polled
-fromSizes d param counts = onward (polled d Sizes param) (polled d (Counts param) counts)
+fromSizes d param counts = pollOnward (polled d Sizes param) (polled d (Counts param) counts)
 
 -- A WHOLE POLL, of the answers to its three reads
 abbrev pub whole : Direction → ℕ → ℕ → ℕ → Polled
-whole d status param counts = onward (polled d Status status) (fromSizes d param counts)
+whole d status param counts = pollOnward (polled d Status status) (fromSizes d param counts)

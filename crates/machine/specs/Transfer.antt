@@ -140,7 +140,8 @@ resumedIn (Ended e) w r v = at (Ended e) w r
 unfoldable pub resumed : Transfer → ℕ → Transfer
 resumed t v = resumedIn (t .phase) (t .work) (t .reset) v
 
--- whether it stands at its start: the first poll for the command's place, and no word done
+-- whether it stands at its start, before the first read of a poll for the command's place, and no word is done. (It does so again after
+-- each poll that was not ready.)
 abbrev startsPoll : Poll → Bool
 startsPoll Status = true
 startsPoll Sizes = false

@@ -105,7 +105,7 @@ fn one_received(work: Work) -> Work
     w
 }
 
-// The first poll for the command's place.
+// Before the first read of a poll for the command's place.
 fn starts(phase: Stage) -> bool
     ensures { λ r. ⌜ r ≡ startsIn phase ⌝ }
 {
@@ -202,7 +202,7 @@ impl Transfer {
         }
     }
 
-    // It has made no access and is to wait for a place for its command.
+    // It stands before the first read of a poll for its command's place, and no word is done: it begins, or its polls so far were unready.
     pub fn is_at_start(self) -> bool
         ensures { λ r. ⌜ r ≡ isAtStart self ⌝ }
     {

@@ -23,8 +23,8 @@ use Rattle.machine.specs.declared.transfer.Stage.the-variants.{Space, Command, 
 use Rattle.machine.specs.declared.transfer.Work.{Work}
 use Rattle.machine.specs.declared.transfer.Transfer.{Transfer}
 use Rattle.machine.specs.declared.poll.Polled.{Polled}
-use Rattle.machine.specs.declared.poll.Polled.the-variants.{Failed, Next, Ready as ready, Unready as unready}
-use Rattle.machine.specs.Poll.{pollAccess, polled, whole}
+use Rattle.machine.specs.declared.poll.Polled.the-variants.{Next, Ready as PollReady, Unready as PollUnready}
+use Rattle.machine.specs.Poll.{pollAccess, polled}
 use Rattle.machine.specs.Transfer.{at, counted, worked, turnAt, sendTurn, receiveTurn, spaceBy}
 use Rattle.machine.specs.Transfer.{sendingBy, receivingBy, atStart, dueAccess, resumed}
 use Rattle.machine.proofs.PollLaws.{Settled, settled-ready, settled-unready}
@@ -37,7 +37,7 @@ use Rattle.runs.specs.declared.fast.turns.Turn.{Turn}
 use Rattle.runs.specs.declared.fast.turns.Turn.the-variants.{Made}
 use Rattle.runs.specs.Run.{put}
 use Rattle.runs.specs.Drive.{wordIn, Stands}
-use Rattle.runs.specs.Turns.{spot, putPoll, shownBy, isRare, Whole, Looked, otherSide, sameSide, hasMore}
+use Rattle.runs.specs.Turns.{spot, putPoll, Whole, Looked, otherSide, sameSide, hasMore}
 use Rattle.runs.specs.Turns.{dueSide, isDue, Within, Onward, Turned, Waited}
 use Rattle.runs.proofs.DriveLaws.{stands-next, stands-start}
 
@@ -137,20 +137,20 @@ module _ (f : Frame) (script send old olds : List ℕ) (m : Transfer) where
         log words budget log′ wide
 
     -- no place yet for the command
-    pub space-waits : Whole Tx made used budget script log log′ unready
+    pub space-waits : Whole Tx made used budget script log log′ PollUnready
         → Stands f script send old olds m (at (Space Status) w r) (spot made used got) log words
         → Stands f script send old olds m (at (Space Status) w r) (spot (made + 3) (used + 3) got) log′ words
-    space-waits whole h = space-polled unready whole (settled-unready Tx _ _ _ (whole .shown)) h
+    space-waits whole h = space-polled PollUnready whole (settled-unready Tx _ _ _ (whole .shown)) h
 
     -- THE COMMAND
-    pub space-commands : (log″ : List ℕ) → Whole Tx made used budget script log log′ ready
+    pub space-commands : (log″ : List ℕ) → Whole Tx made used budget script log log′ PollReady
         → log″ ≡ put log′ (made + 3) (0x1000 + offsetOf TCR) (w .command)
         → Stands f script send old olds m (at (Space Status) w r) (spot made used got) log words
         → Stands f script send old olds m (at (sendTurn w) w r) (spot (made + 4) (used + 3) got) log″ words
     unfolding dueAccess resumed
     space-commands log″ whole el h =
         stands-next f script send old olds m (at Command w r) (spot (made + 3) (used + 3) got) log′ words
-        (space-polled ready whole (settled-ready Tx _ _ _ (whole .shown)) h) (Write TCR (w .command))
+        (space-polled PollReady whole (settled-ready Tx _ _ _ (whole .shown)) h) (Write TCR (w .command))
         (getD script (used + 3) 0) refl refl refl
         (at (sendTurn w) w r) (spot (made + 4) (used + 3) got) log″ words (omega (arith, whole .room, h .size)) refl
         (omega arith) (sym (add-zero (used + 3))) refl
@@ -183,26 +183,26 @@ module _ (f : Frame) (script send old olds : List ℕ) (m : Transfer) where
         subst (λ (p : Stage). Stands f script send old olds m (at p w r) (spot made used got) log words)
         (receives w (more-to-receive e)) h
 
-    -- a poll that is not ready
-    pub turn-waits : (d : Direction) → hasMore d n sent got ≡ true → Whole d made used budget script log log′ unready
+    -- a poll that is not PollReady
+    pub turn-waits : (d : Direction) → hasMore d n sent got ≡ true → Whole d made used budget script log log′ PollUnready
         → Stands f script send old olds m (turnAt d sent got m) (spot made used got) log words
         → Stands f script send old olds m (turnAt (otherSide d) sent got m) (spot (made + 3) (used + 3) got) log′ words
     turn-waits Tx e whole h =
-        sending-polled budget made used got log log′ words wide w r unready whole
+        sending-polled budget made used got log log′ words wide w r PollUnready whole
         (settled-unready Tx _ _ _ (whole .shown)) (at-sending e h)
     turn-waits Rx e whole h =
-        receiving-polled budget made used got log log′ words wide w r unready whole
+        receiving-polled budget made used got log log′ words wide w r PollUnready whole
         (settled-unready Rx _ _ _ (whole .shown)) (at-receiving e h)
 
     -- a word is sent
-    pub turn-sends : (log″ : List ℕ) → ltb sent (n .send) ≡ true → Whole Tx made used budget script log log′ ready
+    pub turn-sends : (log″ : List ℕ) → ltb sent (n .send) ≡ true → Whole Tx made used budget script log log′ PollReady
         → log″ ≡ put log′ (made + 3) (0x1000 + offsetOf TDR) (wordIn f send words got sent)
         → Stands f script send old olds m (turnAt Tx sent got m) (spot made used got) log words
         → Stands f script send old olds m (turnAt Tx (sent + 1) got m) (spot (made + 4) (used + 3) got) log″ words
     unfolding dueAccess resumed
     turn-sends log″ e whole el h =
         let h₁ =
-        sending-polled budget made used got log log′ words wide w r ready whole
+        sending-polled budget made used got log log′ words wide w r PollReady whole
         (settled-ready Tx _ _ _ (whole .shown)) (at-sending e h) in
         let one : sent + 1 ≡ cond (ltb sent (m .work .send)) (sent + 1) sent = rw (more-to-send e) in
         stands-next f script send old olds m (at Send w r) (spot (made + 3) (used + 3) got) log′ words h₁ (SendWord sent)
@@ -213,14 +213,14 @@ module _ (f : Frame) (script send old olds : List ℕ) (m : Transfer) where
 
     -- a word is received
     pub turn-receives : (log″ words′ : List ℕ) → ltb got (n .receive) ≡ true → got < length words
-        → Whole Rx made used budget script log log′ ready
+        → Whole Rx made used budget script log log′ PollReady
         → log″ ≡ put log′ (made + 3) (offsetOf RDR) (getD script (used + 3) 0) → words′ ≡ set words got (getD script (used + 3) 0)
         → Stands f script send old olds m (turnAt Rx sent got m) (spot made used got) log words
         → Stands f script send old olds m (turnAt Rx sent (got + 1) m) (spot (made + 4) (used + 4) (got + 1)) log″ words′
     unfolding dueAccess resumed
     turn-receives log″ words′ e place whole el ew h =
         let h₁ =
-        receiving-polled budget made used got log log′ words wide w r ready whole
+        receiving-polled budget made used got log log′ words wide w r PollReady whole
         (settled-ready Rx _ _ _ (whole .shown)) (at-receiving e h) in
         let one : got + 1 ≡ cond (ltb got (m .work .receive)) (got + 1) got = rw (more-to-receive e) in
         stands-next f script send old olds m (at Receive w r) (spot (made + 3) (used + 3) got) log′ words h₁ (ReceiveWord got)
@@ -246,7 +246,7 @@ module _ (f : Frame) (script send old olds : List ℕ) (m : Transfer) where
 module _ (f : Frame) (script send : List ℕ) (n : Count) (budget : ℕ) (t : Turns) (log log′ words : List ℕ)
     (wide : 2 * budget ≤ length log) (in′ : Within budget (length words) t) where
   pub made-waits : hasMore (t .side) n (t .sent) (t .spot .received) ≡ true
-      → Whole (t .side) (t .spot .made) (t .spot .used) budget script log log′ unready
+      → Whole (t .side) (t .spot .made) (t .spot .used) budget script log log′ PollUnready
       → Turned f script send n budget t log words log′ words
       (Made
       (record
@@ -265,7 +265,7 @@ module _ (f : Frame) (script send : List ℕ) (n : Count) (budget : ℕ) (t : Tu
   )
 
   pub made-sends : (log″ : List ℕ) → t .side ≡ Tx → ltb (t .sent) (n .send) ≡ true
-      → Whole Tx (t .spot .made) (t .spot .used) budget script log log′ ready
+      → Whole Tx (t .spot .made) (t .spot .used) budget script log log′ PollReady
       → log″ ≡ put log′ (t .spot .made + 3) (0x1000 + offsetOf TDR) (wordIn f send words (t .spot .received) (t .sent))
       → Turned f script send n budget t log words log″ words
       (Made
@@ -290,7 +290,7 @@ module _ (f : Frame) (script send : List ℕ) (n : Count) (budget : ℕ) (t : Tu
   )
 
   pub made-receives : (log″ words′ : List ℕ) → t .side ≡ Rx → ltb (t .spot .received) (n .receive) ≡ true
-      → n .receive ≤ length words → Whole Rx (t .spot .made) (t .spot .used) budget script log log′ ready
+      → n .receive ≤ length words → Whole Rx (t .spot .made) (t .spot .used) budget script log log′ PollReady
       → log″ ≡ put log′ (t .spot .made + 3) (offsetOf RDR) (getD script (t .spot .used + 3) 0)
       → words′ ≡ set words (t .spot .received) (getD script (t .spot .used + 3) 0)
       → Turned f script send n budget t log words log″ words′
@@ -340,21 +340,6 @@ pub within-passed : (n : Count) (budget places : ℕ) (u v : Turns)
     → Within budget places u → Within budget places v
 within-passed n budget places u v e h =
     subst (Within budget places) (sym e) (record { made = h .made; used = h .used; sent = h .sent; received = h .received })
-
--- a poll that is not rare was made whole
-pub looked-at : (d : Direction) (made used budget : ℕ) (script log log′ : List ℕ) (x : Polled) {r : Shown}
-    → whole d (getD script used 0) (getD script (used + 1) 0) (getD script (used + 2) 0) ≡ x → r ≡ shownBy x → isRare r ≡ false
-    → made + 4 ≤ budget → used + 4 ≤ length script
-    → log′ ≡ putPoll log made (getD script used 0) (getD script (used + 1) 0) (getD script (used + 2) 0)
-    → Looked d made used budget script log log′ r
-looked-at d made used budget script log log′ Failed w e n b a l =
-    absurd (let z : _≡_ {A = Bool} true false = sym (ap isRare e) ∙ n in let y : _≡_ {A = ℕ} 0 1 = cc in omega arith)
-looked-at d made used budget script log log′ (Next p) w e n b a l =
-    absurd (let z : _≡_ {A = Bool} true false = sym (ap isRare e) ∙ n in let y : _≡_ {A = ℕ} 0 1 = cc in omega arith)
-looked-at d made used budget script log log′ ready w e n b a l =
-    subst (Looked d made used budget script log log′) (sym e) (record { room = b; answers = a; shown = w; logged = l })
-looked-at d made used budget script log log′ unready w e n b a l =
-    subst (Looked d made used budget script log log′) (sym e) (record { room = b; answers = a; shown = w; logged = l })
 
 pub as-look : (d : Direction) (made used budget : ℕ) (script log log′ : List ℕ) (r r′ : Shown) → r ≡ r′
     → Looked d made used budget script log log′ r → Looked d made used budget script log log′ r′

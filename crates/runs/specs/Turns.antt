@@ -13,7 +13,7 @@ use Rattle.words.specs.declared.transaction.Direction.the-variants.{Tx, Rx}
 use Rattle.sequences.specs.declared.sequence.Sequence.{Sequence}
 use Rattle.machine.specs.declared.transfer.Transfer.{Transfer}
 use Rattle.machine.specs.declared.poll.Polled.{Polled}
-use Rattle.machine.specs.declared.poll.Polled.the-variants.{Failed, Next, Ready as ready, Unready as unready}
+use Rattle.machine.specs.declared.poll.Polled.the-variants.{Ready as PollReady, Unready as PollUnready}
 use Rattle.machine.specs.Poll.{whole}
 use Rattle.machine.specs.Transfer.{atStart, turnAt}
 use Rattle.runs.specs.declared.drive.Frame.{Frame}
@@ -44,22 +44,10 @@ pub record Whole (d : Direction) (made used budget : ℕ) (script log log′ : L
   pub shown : whole d (getD script used 0) (getD script (used + 1) 0) (getD script (used + 2) 0) ≡ x
   pub logged : log′ ≡ putPoll log made (getD script used 0) (getD script (used + 1) 0) (getD script (used + 2) 0)
 
--- what a poll shows, by what it comes to
-abbrev pub shownBy : Polled → Shown
-shownBy Failed = Rare
-shownBy (Next p) = Rare
-shownBy ready = Ready
-shownBy unready = Unready
-
-abbrev pub isRare : Shown → Bool
-isRare Rare = true
-isRare Unready = false
-isRare Ready = false
-
 abbrev pub Looked : Direction → ℕ → ℕ → ℕ → List ℕ → List ℕ → List ℕ → Shown → Type 0
 Looked d made used budget script log log′ Rare = log′ ≡ log
-Looked d made used budget script log log′ Unready = Whole d made used budget script log log′ unready
-Looked d made used budget script log log′ Ready = Whole d made used budget script log log′ ready
+Looked d made used budget script log log′ Unready = Whole d made used budget script log log′ PollUnready
+Looked d made used budget script log log′ Ready = Whole d made used budget script log log′ PollReady
 
 abbrev pub otherSide : Direction → Direction
 otherSide Tx = Rx

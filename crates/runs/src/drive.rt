@@ -1,6 +1,6 @@
 // The run of a transfer over FIFO words, an access at a time.
 ghost use mathlib.Core.Path.{_≡_};
-ghost use mathlib.Core.Bool.{cond, _&&_};
+ghost use mathlib.Core.Bool.{_&&_};
 ghost use mathlib.Core.List.{List};
 ghost use Prim.Native.Nat.{ℕ, _*_, _≤_};
 ghost use lib.Dec.{ltb};
@@ -48,18 +48,11 @@ pub(crate) fn answer(script: &[u32], used: usize) -> u32
     if used < script.len() { script[used] } else { 0 }
 }
 
-// In place, the words received lie over those to send.
-fn overlay(frame: Frame, received: usize) -> usize
-    ensures { λ r. ⌜ r ≡ cond (frame .inplace) received 0 ⌝ }
-{
-    if frame.inplace { received } else { 0 }
-}
-
-// The word that is sent from a place was already received there. (A loop over places asks only this of `frame`, before it begins.)
+// The word that is sent from a place was already received there.
 fn overlaid(frame: Frame, received: usize, i: usize) -> bool
     ensures { λ r. ⌜ r ≡ (frame .inplace && ltb i received) ⌝ }
 {
-    i < overlay(frame, received)
+    if frame.inplace { i < received } else { false }
 }
 
 // The word that is sent from a place.

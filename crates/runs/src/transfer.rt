@@ -34,21 +34,38 @@ pub fn run_words(
             },
         };
     }
-    // Only for speed: see `fast`.
-    let reached = ahead(
-        transfer,
-        frame,
-        budget,
-        script,
-        log,
-        sent_words,
-        received_words,
-    );
-    let rest = reached.transfer;
-    let spot = reached.spot;
+    if transfer.is_at_start() {
+        // Only for speed: see `fast`.
+        let reached = ahead(
+            transfer,
+            frame,
+            budget,
+            script,
+            log,
+            sent_words,
+            received_words,
+        );
+        let rest = reached.transfer;
+        let spot = reached.spot;
+        return drive(
+            rest,
+            spot,
+            frame,
+            budget,
+            script,
+            log,
+            sent_words,
+            received_words,
+        );
+    }
+    let nothing = Spot {
+        made: 0,
+        used: 0,
+        received: 0,
+    };
     drive(
-        rest,
-        spot,
+        transfer,
+        nothing,
         frame,
         budget,
         script,

@@ -12,7 +12,7 @@ use Rattle.words.specs.declared.order.BitOrder.{BitOrder}
 use Rattle.words.specs.declared.transaction.LpspiError.the-variants.{FrameSize}
 use Rattle.words.specs.declared.width.Width.{Width}
 use Rattle.words.specs.Word.{laid}
-use Rattle.words.specs.Buffer.{wordCount, wordAt, packWords, unpackWords}
+use Rattle.words.specs.Buffer.{wordCount, packWords, unpackWords}
 use Rattle.words.specs.Command.{frameAccepted, commanded}
 use Rattle.words.specs.Longer.{longer}
 use Rattle.words.specs.Width.{widthBits}

@@ -1,4 +1,4 @@
 pub mod CallLaws
-mod TransferLaws
+pub mod TransferLaws
 mod BeginLaws
 mod EntryLaws

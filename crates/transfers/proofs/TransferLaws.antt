@@ -1,19 +1,16 @@
 -- The four transfers: from what the code does over FIFO words to the definition over elements. The width k is a parameter.
 -- Assumes nothing.
-use Prim.Native.Nat.{ℕ, zero, suc, _*_, _-_, _%_, _^_, _<_, _≤_, max}
+use Prim.Native.Nat.{ℕ, zero, suc, _*_, _%_, _^_, _<_, _≤_, max}
 use mathlib.Core.Bool.{Bool, true, false, cond}
 use mathlib.Core.List.{List}
-use mathlib.Core.Path.{_≡_, refl, sym, ap, ap₂, _∙_}
+use mathlib.Core.Path.{_≡_, refl, sym, ap, _∙_}
 use native.Mathlib.Nat.{mul-zero, mod-one}
 use native.Mathlib.Omega.{arith}
 use lib.Dec.{ltb, leb}
 use lib.ListN.{length, getD, take, replicate}
 use lib.Seq.{take-all}
-use borrow.Author.Tests.{lt-ltb, ltb-true, ltb-false, leb-true, leb-false, ne-eqb}
+use borrow.Author.Tests.{lt-ltb, ltb-true, ltb-false, leb-true, leb-false}
 use denote.Ref.{RefT, now}
-use Rattle.manual.specs.declared.Field.the-variants.{Tcr}
-use Rattle.manual.specs.declared.Tcr.the-variants.{FRAMESZ}
-use Rattle.manual.specs.Manual.{setField}
 use Rattle.words.specs.declared.order.BitOrder.{BitOrder}
 use Rattle.words.specs.declared.width.Width.{Width}
 use Rattle.words.specs.declared.width.Width.the-variants.{U8, U16, U32}
@@ -25,19 +22,8 @@ use Rattle.words.specs.Width.{widthBits}
 use Rattle.words.proofs.BufferLaws.{holds-one}
 use Rattle.words.proofs.CommandLaws.{accepted-between}
 use Rattle.words.proofs.LaidLaws.{in-place-word, unpack-take, packed-at, laid-at, take-laid, word-past, total-ends}
-use Rattle.sequences.specs.declared.access.Ending.{Ending}
-use Rattle.sequences.specs.declared.driver.Lpspi.{Lpspi}
-use Rattle.machine.specs.declared.transfer.Transfer.{Transfer}
-use Rattle.sequences.specs.Driver.{driverCommand}
-use Rattle.machine.specs.Transfer.{startTransfer, endedTransfer, dueAccess, resumed}
 use Rattle.runs.specs.declared.drive.Frame.{Frame}
-use Rattle.runs.specs.declared.drive.Driven.{Driven}
-use Rattle.runs.specs.declared.result.RunResult.{RunResult}
-use Rattle.runs.specs.Run.{State, start, run, limits, endingOf, logOver, left}
-use Rattle.transfers.specs.Transfers.{Plan, begun, transferStates, transferLeft, transferred}
-use Rattle.runs.specs.Drive.{stored, sentFrom, drivenLeft, drivenBy, DrivenLeft, resultOf, wordsStates}
-use Rattle.runs.proofs.RunLaws.{run-halted}
-use Rattle.runs.proofs.RunDepends.{run-words}
+use Rattle.runs.specs.Drive.{stored, sentFrom}
 
 -- THE TOTAL LENGTH
 pub longer-length : (r w : RefT (List ℕ)) → length (now (longer r w)) ≡ max (length (now r)) (length (now w))

@@ -40,6 +40,6 @@ lengthPlan k ways total =
 
 -- (private contracts cite it) number 5, all as found, or the run of what begins
 abbrev pub wordsTransfer : Lpspi → Ways → Frame → ℕ → List ℕ → List ℕ → List ℕ → List ℕ → DrivenLeft
-wordsTransfer d ways f =
+wordsTransfer d ways f budget script send log olds =
     let k = widthBits (f .width) in
-    wordsRun (begun k d (lengthPlan k ways (f .total))) f
+    wordsRun (begun k d (lengthPlan k ways (f .total))) f budget script send log olds

@@ -28,7 +28,8 @@ pub fn exchange_separate_u8(
     log: &mut [u32],
 ) -> RunResult
     ensures { λ r. ⌜ transferLeft r (now (log .exit)) (now (read .exit))
-        ≡ exchangeSeparate 8 driver (now (read .entry)) (now (write .entry)) budget (now (script .entry)) (now (log .entry)) ⌝ }
+        ≡ exchangeSeparate 8 driver (now (read .entry)) (now (write .entry)) budget (now (script .entry))
+        (now (log .entry)) ⌝ }
 {
     let longer = longer_u8(&read[..], write);
     let total = longer.len();
@@ -66,7 +67,8 @@ pub fn exchange_separate_u16(
     log: &mut [u32],
 ) -> RunResult
     ensures { λ r. ⌜ transferLeft r (now (log .exit)) (now (read .exit))
-        ≡ exchangeSeparate 16 driver (now (read .entry)) (now (write .entry)) budget (now (script .entry)) (now (log .entry)) ⌝ }
+        ≡ exchangeSeparate 16 driver (now (read .entry)) (now (write .entry)) budget (now (script .entry))
+        (now (log .entry)) ⌝ }
 {
     let longer = longer_u16(&read[..], write);
     let total = longer.len();
@@ -104,7 +106,8 @@ pub fn exchange_separate_u32(
     log: &mut [u32],
 ) -> RunResult
     ensures { λ r. ⌜ transferLeft r (now (log .exit)) (now (read .exit))
-        ≡ exchangeSeparate 32 driver (now (read .entry)) (now (write .entry)) budget (now (script .entry)) (now (log .entry)) ⌝ }
+        ≡ exchangeSeparate 32 driver (now (read .entry)) (now (write .entry)) budget (now (script .entry))
+        (now (log .entry)) ⌝ }
 {
     let longer = longer_u32(&read[..], write);
     let total = longer.len();

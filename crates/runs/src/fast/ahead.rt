@@ -1,7 +1,9 @@
 // A run taken ahead by whole turns: the waiting for the command's place, the command, and as many turns as certainly fit.
+ghost use mathlib.Core.Bool.{true};
 ghost use mathlib.Core.Path.{_≡_};
 ghost use Prim.Native.Nat.{_*_, _≤_};
 ghost use lib.ListN.{length};
+ghost use Rattle.machine.specs.Transfer.{isAtStart};
 ghost use Rattle.runs.specs.Turns.{spot, Waited, Ahead};
 use crate::access::WRITE;
 use crate::drive::Frame;
@@ -67,7 +69,7 @@ fn wait_for_space(command: u32, budget: usize, script: &[u32], log: &mut [u32]) 
     }
 }
 
-// From a transfer that stands at its start; any other stays where it is.
+// From a transfer that stands at its start.
 pub(crate) fn ahead(
     transfer: Transfer,
     frame: Frame,
@@ -77,7 +79,8 @@ pub(crate) fn ahead(
     sent_words: &[u32],
     received_words: &mut [u32],
 ) -> Reached
-    requires { ⌜ 2 * budget ≤ length (now log) ⌝ }
+    requires room { ⌜ 2 * budget ≤ length (now log) ⌝ }
+    requires begins { ⌜ isAtStart transfer ≡ true ⌝ }
     ensures { λ r. ⌜ Ahead frame (now (script .entry)) (now («sent_words» .entry)) budget transfer
         (now (log .entry)) (now («received_words» .entry)) r (now (log .exit)) (now («received_words» .exit)) ⌝ }
 {
@@ -97,36 +100,33 @@ pub(crate) fn ahead(
             spot: nothing,
         };
     }
-    if transfer.is_at_start() {
-        let spaced = wait_for_space(work.command, budget, script, log);
-        let spot = spaced.spot;
-        if spaced.commanded {
-            let first = Turns {
-                side: Direction::Tx,
-                sent: 0,
-                spot,
-            };
-            let last = take_turns(
-                first,
-                count,
-                frame,
-                budget,
-                script,
-                log,
-                sent_words,
-                received_words,
-            );
-            let side = last.side;
-            let reached = last.spot;
-            return Reached {
-                transfer: transfer.at_turn(side, last.sent, reached.received),
-                spot: reached,
-            };
-        }
-        return Reached { transfer, spot };
+    let spaced = wait_for_space(work.command, budget, script, log);
+    let reached = spaced.spot;
+    if spaced.commanded {
+        let first = Turns {
+            side: Direction::Tx,
+            sent: 0,
+            spot: reached,
+        };
+        let last = take_turns(
+            first,
+            count,
+            frame,
+            budget,
+            script,
+            log,
+            sent_words,
+            received_words,
+        );
+        let side = last.side;
+        let spot = last.spot;
+        return Reached {
+            transfer: transfer.at_turn(side, last.sent, spot.received),
+            spot,
+        };
     }
     Reached {
         transfer,
-        spot: nothing,
+        spot: reached,
     }
 }

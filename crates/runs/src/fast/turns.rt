@@ -12,7 +12,7 @@ ghost use Rattle.runs.specs.Run.{put};
 ghost use Rattle.runs.specs.declared.drive.Frame.{Frame as Frames};
 ghost use Rattle.runs.specs.declared.fast.turns.Count.{Count as Counts};
 ghost use Rattle.runs.specs.Drive.{wordIn};
-ghost use Rattle.runs.specs.Turns.{spot, putPoll, shownBy, isRare, Looked, otherSide, sameSide, hasMore, dueSide, isDue, Within, Onward, Turned};
+ghost use Rattle.runs.specs.Turns.{spot, putPoll, Looked, otherSide, sameSide, hasMore, dueSide, isDue, Within, Onward, Turned};
 use crate::access::WRITE;
 use crate::drive::Frame;
 use crate::drive::Spot;
@@ -51,28 +51,6 @@ pub(crate) enum Turn {
     Undone,
 }
 
-// What a poll shows, by what it comes to.
-fn showing(polled: Polled) -> Shown
-    ensures { λ r. ⌜ r ≡ shownBy polled ⌝ }
-{
-    match polled {
-        Polled::Failed => Shown::Rare,
-        Polled::Next(_) => Shown::Rare,
-        Polled::Ready => Shown::Ready,
-        Polled::Unready => Shown::Unready,
-    }
-}
-
-fn is_rare(shown: Shown) -> bool
-    ensures { λ r. ⌜ r ≡ isRare shown ⌝ }
-{
-    match shown {
-        Shown::Rare => true,
-        Shown::Unready => false,
-        Shown::Ready => false,
-    }
-}
-
 // The three pairs of a poll.
 fn put_poll(log: &mut [u32], made: usize, status: u32, param: u32, counts: u32)
     requires { ⌜ 2 * (made + 3) ≤ length (now log) ⌝ }
@@ -107,12 +85,18 @@ pub(crate) fn poll(
     let status = script[used];
     let param = script[used + 1];
     let counts = script[used + 2];
-    let seen = showing(whole(side, status, param, counts));
-    if is_rare(seen) {
-        return Shown::Rare;
+    match whole(side, status, param, counts) {
+        Polled::Failed => Shown::Rare,
+        Polled::Next(_) => Shown::Rare,
+        Polled::Ready => {
+            put_poll(log, made, status, param, counts);
+            Shown::Ready
+        }
+        Polled::Unready => {
+            put_poll(log, made, status, param, counts);
+            Shown::Unready
+        }
     }
-    put_poll(log, made, status, param, counts);
-    seen
 }
 
 fn other(side: Direction) -> Direction

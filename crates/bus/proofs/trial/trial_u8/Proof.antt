@@ -10,14 +10,14 @@ use Rattle.bus.proofs.trial.trial_u8.Tie as tie
 
 slice-aggregate-unpack-words-u8 : tie.Need-slice-aggregate-unpack-words-u8
 slice-aggregate-unpack-words-u8 c =
-    let x = c .before .before .before .before .before .before .exchange in
+    let x = c .before .before .before .before .before .before .run-pair in
     sym
     (length-take-le _ _
     (subst (λ (m : ℕ). x .result .gate .station .received ≤ m) (sym (x .kept .1 .1 .1 .1 .1 .0)) (x .ensures .gatePlaces)))
 
 slice-aggregate-unpack-words-u8-2 : tie.Need-slice-aggregate-unpack-words-u8-2
 slice-aggregate-unpack-words-u8-2 c =
-    let x = c .before .before .before .before .before .before .before .before .before .before .before .before .exchange in
+    let x = c .before .before .before .before .before .before .before .before .before .before .before .before .run-pair in
     sym
     (length-take-le _ _
     (subst (λ (m : ℕ). x .result .antenna .station .received ≤ m) (sym (x .kept .1 .1 .1 .1 .1 .1 .0))
@@ -33,7 +33,7 @@ returns c =
     let c₃₀ = c₂₆ .before .before .before .before in
     let c₃₄ = c₃₀ .before .before .before .before in
     let a = c₃₄ .before .before .args in
-    let x = c₁₆ .exchange in
+    let x = c₁₆ .run-pair in
     let gate-total = total-lent (a .gate) (a .gate-read .now) (a .gate-write .now) (c₃₀ .total-of .ensures) in
     let antenna-total =
     total-lent (a .antenna) (a .antenna-read .now) (a .antenna-write .now) (c₂₆ .before .before .before .total-of2 .ensures) in

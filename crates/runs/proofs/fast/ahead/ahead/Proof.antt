@@ -27,21 +27,22 @@ returns-2 : tie.Need-returns-2
 returns-2 c =
     let c₆ = c .before .before .before .before .before .before in
     let c₁₃ = c₆ .before .before .before .before .before .before .before in
-    let c₁₉ = c₁₃ .before .before .before .before .before .before in
-    let a = c₁₉ .before .before .before .before .before .args in
-    let w = c₁₉ .work in
+    let c₁₇ = c₁₃ .before .before .before .before in
+    let c₂₂ = c₁₇ .before .before .before .before .before in
+    let a = c₂₂ .args in
+    let w = c₁₇ .work in
     let s = c₁₃ .wait-for-space in
     let t = c₆ .take-turns in
     let u = t .result in
     let begins = atStart (a .transfer .reset) (w .result .command) (w .result .send) (w .result .receive) in
     let same : begins ≡ a .transfer =
     ap (λ (x : Work). atStart (a .transfer .reset) (x .command) (x .send) (x .receive)) (w .ensures)
-    ∙ sym (at-start (a .transfer) (sym (c₁₃ .before .before .before .is-at-start .ensures) ∙ c₁₃ .before .before .if2 .taken)) in
+    ∙ sym (at-start (a .transfer) (c₂₂ .pre .1)) in
     let first =
     stands-commanded (a .frame) (a .script .now) (a .sent-words .now) (a .received-words .now)
     (a .log .now) (s .last .1 .1 .1 .0)
     (a .transfer .reset) (w .result .command) (w .result .send) (w .result .receive) (s .result) (s .ensures .3)
-    (c₆ .before .before .before .if3 .taken) (s .ensures .2) in
+    (c₆ .before .before .before .if2 .taken) (s .ensures .2) in
     let reached = t .ensures .1 begins (a .log .now) (a .received-words .now) refl refl first in
     record {
       made = t .ensures .0 .made;
@@ -60,14 +61,15 @@ returns-2 c =
 returns-3 : tie.Need-returns-3
 returns-3 c =
     let c₄ = c .before .before .before .before in
-    let c₁₀ = c₄ .before .before .before .before .before .before in
-    let a = c₁₀ .before .before .before .before .before .args in
-    let w = c₁₀ .work in
+    let c₈ = c₄ .before .before .before .before in
+    let c₁₃ = c₈ .before .before .before .before .before in
+    let a = c₁₃ .args in
+    let w = c₈ .work in
     let s = c₄ .wait-for-space in
     let begins = atStart (a .transfer .reset) (w .result .command) (w .result .send) (w .result .receive) in
     let same : begins ≡ a .transfer =
     ap (λ (x : Work). atStart (a .transfer .reset) (x .command) (x .send) (x .receive)) (w .ensures)
-    ∙ sym (at-start (a .transfer) (sym (c₄ .before .before .before .is-at-start .ensures) ∙ c₄ .before .before .if2 .taken)) in
+    ∙ sym (at-start (a .transfer) (c₁₃ .pre .1)) in
     record {
       made = s .ensures .0;
       used = s .ensures .1;
@@ -75,17 +77,7 @@ returns-3 c =
       stands = subst (λ (x : Transfer). Stands (a .frame) (a .script .now) (a .sent-words .now) (a .log .now) (a .received-words .now) x x
           (s .result .spot) (s .last .1 .1 .1 .0) (a .received-words .now)) same
           (stands-uncommanded (a .frame) (a .script .now) (a .sent-words .now) (a .received-words .now) (a .log .now) (s .last .1 .1 .1 .0)
-          (a .transfer .reset) (w .result .command) (w .result .send) (w .result .receive) (s .result) (s .ensures .3) (c .if3 .left));
-    }
-
-returns-4 : tie.Need-returns-4
-returns-4 c =
-    let a = c .before .before .before .before .before .before .before .before .before .args in
-    record {
-      made = omega arith;
-      used = omega arith;
-      received = omega arith;
-      stands = stands-start (a .frame) (a .script .now) (a .sent-words .now) (a .log .now) (a .received-words .now) (a .transfer);
+          (a .transfer .reset) (w .result .command) (w .result .send) (w .result .receive) (s .result) (s .ensures .3) (c .if2 .left));
     }
 
 pub ahead-spec : {M : Type 1} → statement M
@@ -97,10 +89,8 @@ ahead-spec =
     (λ c κs. search needs)
     (λ c κs. search needs)
     (λ c κs. search needs)
-    (λ c κs. search needs)
     (λ c. search needs)
     (λ c. search needs)
     returns-2
     (λ c. search needs)
-    returns-3
-    returns-4)
+    returns-3)

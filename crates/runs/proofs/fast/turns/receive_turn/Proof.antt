@@ -1,4 +1,4 @@
--- `receive_turn` meets its contract: nothing, a poll that was not ready, or a word.
+-- `receive_turn` meets its contract: nothing, a poll that was not PollReady, or a word.
 -- Assumes nothing.
 use mathlib.Core.Path.{_≡_, refl, sym, subst}
 use mathlib.Core.Bool.{true}
@@ -10,7 +10,7 @@ use Rattle.runs.specs.declared.fast.turns.Turn.the-variants.{Made}
 use Rattle.runs.specs.declared.fast.turns.Turns.{Turns}
 use Rattle.runs.specs.Turns.{Whole, hasMore, Turned}
 use Rattle.runs.proofs.TurnLaws.{as-look, due-side, made-waits, made-receives}
-use Rattle.machine.specs.declared.poll.Polled.the-variants.{Unready as unready}
+use Rattle.machine.specs.declared.poll.Polled.the-variants.{Unready as PollUnready}
 use borrow.Author.Needs.{needs}
 use Rattle.runs.proofs.fast.turns.receive_turn.Statement.{statement}
 use Rattle.runs.proofs.fast.turns.receive_turn.Tie as tie
@@ -53,7 +53,7 @@ returns-2 c =
     let d = due-side Rx n (a .t) e in
     let whole =
     subst
-    (λ (x : Direction). Whole x (a .t .spot .made) (a .t .spot .used) (a .budget) (a .script .now) (a .log .now) log′ unready)
+    (λ (x : Direction). Whole x (a .t .spot .made) (a .t .spot .used) (a .budget) (a .script .now) (a .log .now) log′ PollUnready)
     (sym (d .0)) q in
     let more = subst (λ (x : Direction). hasMore x n (a .t .sent) (a .t .spot .received) ≡ true) (sym (d .0)) (d .1) in
     subst

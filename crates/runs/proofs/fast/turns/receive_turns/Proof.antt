@@ -49,9 +49,11 @@ loop-less c =
     let k = c₇ .receive-turn in
     let due = sym (c₁₁ .due .ensures) ∙ c₇ .before .before .before .if1 .taken in
     let places : a .count .receive ≤ length (l .received-words) = omega (arith, l .inv .2, c₁₆ .pre .1 .1) in
-    let q : (f : Frame) (send : List ℕ) → Turned f (a .script .now) send (a .count) (a .budget) (l .t) (l .log) (l .received-words) (k .last .1 .1 .1 .0) (k .last .1 .1 .1 .1 .0) (Made (c .before .u .given .0 .0)) =
+    let q : (f : Frame) (send : List ℕ) → Turned f (a .script .now) send (a .count) (a .budget) (l .t) (l .log) (l .received-words)
+    (k .last .1 .1 .1 .0) (k .last .1 .1 .1 .1 .0) (Made (c .before .u .given .0 .0)) =
     λ f send.
-    as-turn f (a .script .now) send (a .count) (a .budget) (l .t) (l .log) (l .received-words) (k .last .1 .1 .1 .0)
+    as-turn f (a .script .now) send (a .count) (a .budget) (l .t) (l .log) (l .received-words)
+    (k .last .1 .1 .1 .0)
     (k .last .1 .1 .1 .1 .0) (k .result) (Made (c .before .u .given .0 .0)) (c .before .u .given .1)
     (k .ensures f send (a .count) due places) in
     omega (arith, q some [] .0, q some [] .1 .made)
@@ -66,9 +68,11 @@ loop-again c =
     let k = c₇ .receive-turn in
     let due = sym (c₁₁ .due .ensures) ∙ c₇ .before .before .before .if1 .taken in
     let places : a .count .receive ≤ length (l .received-words) = omega (arith, l .inv .2, c₁₆ .pre .1 .1) in
-    let q : (f : Frame) (send : List ℕ) → Turned f (a .script .now) send (a .count) (a .budget) (l .t) (l .log) (l .received-words) (k .last .1 .1 .1 .0) (k .last .1 .1 .1 .1 .0) (Made (c .before .u .given .0 .0)) =
+    let q : (f : Frame) (send : List ℕ) → Turned f (a .script .now) send (a .count) (a .budget) (l .t) (l .log) (l .received-words)
+    (k .last .1 .1 .1 .0) (k .last .1 .1 .1 .1 .0) (Made (c .before .u .given .0 .0)) =
     λ f send.
-    as-turn f (a .script .now) send (a .count) (a .budget) (l .t) (l .log) (l .received-words) (k .last .1 .1 .1 .0)
+    as-turn f (a .script .now) send (a .count) (a .budget) (l .t) (l .log) (l .received-words)
+    (k .last .1 .1 .1 .0)
     (k .last .1 .1 .1 .1 .0) (k .result) (Made (c .before .u .given .0 .0)) (c .before .u .given .1)
     (k .ensures f send (a .count) due places) in (
       subst (λ (x : ℕ). Within (a .budget) x (c .before .u .given .0 .0)) (l .inv .2) (q some [] .1),
@@ -97,9 +101,11 @@ returns c =
     let k = c₆ .receive-turn in
     let due = sym (c₁₀ .due .ensures) ∙ c₆ .before .before .before .if1 .taken in
     let places : a .count .receive ≤ length (l .received-words) = omega (arith, l .inv .2, c₁₅ .pre .1 .1) in
-    let q : (f : Frame) (send : List ℕ) → Turned f (a .script .now) send (a .count) (a .budget) (l .t) (l .log) (l .received-words) (k .last .1 .1 .1 .0) (k .last .1 .1 .1 .1 .0) Undone =
+    let q : (f : Frame) (send : List ℕ) → Turned f (a .script .now) send (a .count) (a .budget) (l .t) (l .log) (l .received-words)
+    (k .last .1 .1 .1 .0) (k .last .1 .1 .1 .1 .0) Undone =
     λ f send.
-    as-turn f (a .script .now) send (a .count) (a .budget) (l .t) (l .log) (l .received-words) (k .last .1 .1 .1 .0)
+    as-turn f (a .script .now) send (a .count) (a .budget) (l .t) (l .log) (l .received-words)
+    (k .last .1 .1 .1 .0)
     (k .last .1 .1 .1 .1 .0) (k .result) Undone (c .enum-told .given .1) (k .ensures f send (a .count) due places) in (
       l .inv .0,
       λ f send.

@@ -56,7 +56,8 @@ returns c =
     let r = c₈ .receive-turns in
     let within : Within (a .budget) (length (a .received-words .now)) (r .result) =
     subst (λ (x : ℕ). Within (a .budget) x (r .result)) (l .inv .2) (r .ensures .0) in
-    let onward : Onward (a .frame) (a .script .now) (a .sent-words .now) (a .count) (a .first) (a .log .now) (a .received-words .now) (r .result) (r .last .1 .1 .1 .1 .0) (r .last .1 .1 .1 .1 .1 .0) =
+    let onward : Onward (a .frame) (a .script .now) (a .sent-words .now) (a .count) (a .first) (a .log .now) (a .received-words .now)
+    (r .result) (r .last .1 .1 .1 .1 .0) (r .last .1 .1 .1 .1 .1 .0) =
     λ m old olds en er h.
     r .ensures .1 (a .frame) (a .sent-words .now) m old olds en er
     (t .ensures .1 m old olds en er (l .inv .3 m old olds en er h)) in
@@ -80,7 +81,8 @@ loop-again c =
     let r = c₈ .receive-turns in
     let within : Within (a .budget) (length (a .received-words .now)) (r .result) =
     subst (λ (x : ℕ). Within (a .budget) x (r .result)) (l .inv .2) (r .ensures .0) in
-    let onward : Onward (a .frame) (a .script .now) (a .sent-words .now) (a .count) (a .first) (a .log .now) (a .received-words .now) (r .result) (r .last .1 .1 .1 .1 .0) (r .last .1 .1 .1 .1 .1 .0) =
+    let onward : Onward (a .frame) (a .script .now) (a .sent-words .now) (a .count) (a .first) (a .log .now) (a .received-words .now)
+    (r .result) (r .last .1 .1 .1 .1 .0) (r .last .1 .1 .1 .1 .1 .0) =
     λ m old olds en er h.
     r .ensures .1 (a .frame) (a .sent-words .now) m old olds en er
     (t .ensures .1 m old olds en er (l .inv .3 m old olds en er h)) in

@@ -2,11 +2,11 @@
 ghost use mathlib.Core.Path.{_≡_};
 ghost use lib.ListN.{length};
 ghost use Rattle.words.specs.Width.{widthBits};
-ghost use Rattle.bus.specs.Held.{Exchanged};
+ghost use Rattle.bus.specs.Held.{PairRun};
 use crate::begin::Entrant;
 use crate::begin::fresh;
 use crate::begin::fresh_registers;
-use crate::begin::is_refused;
+use crate::begin::is_unpaired;
 use crate::begin::link;
 use crate::clock::Stations;
 use crate::run::run;
@@ -39,7 +39,7 @@ fn left(number: u32, ends: Stations, gate: [u32; 30], antenna: [u32; 30]) -> Out
 }
 
 // `gate_send` and `antenna_send` have the words packed at the start, the other two the places for those received.
-pub(crate) fn exchange(
+pub(crate) fn run_pair(
     width: Width,
     gate: Entrant,
     antenna: Entrant,
@@ -50,7 +50,7 @@ pub(crate) fn exchange(
     events: &[u8],
 ) -> Outcome
     requires { ⌜ (length (now «gate_words») ≡ 128) × (length (now «antenna_words») ≡ 128) ⌝ }
-    ensures { λ r. ⌜ Exchanged (widthBits width) gate antenna (now («gate_send» .entry)) (now («antenna_send» .entry))
+    ensures { λ r. ⌜ PairRun (widthBits width) gate antenna (now («gate_send» .entry)) (now («antenna_send» .entry))
         (now (events .entry)) r (now («gate_words» .exit)) (now («antenna_words» .exit)) ⌝ }
 {
     let stations = Stations {
@@ -59,7 +59,7 @@ pub(crate) fn exchange(
     };
     let mut gate_registers = fresh_registers();
     let mut antenna_registers = fresh_registers();
-    if is_refused(width, gate, antenna) {
+    if is_unpaired(width, gate, antenna) {
         return left(9, stations, gate_registers, antenna_registers);
     }
     let ends = run(

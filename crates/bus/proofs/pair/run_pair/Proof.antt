@@ -1,28 +1,28 @@
--- `exchange` meets its contract: number 9, or the events from fresh.
+-- `run_pair` meets its contract: number 9, or the events from fresh.
 -- Assumes nothing.
 use mathlib.Core.List.{[]}
-use mathlib.Core.Path.{_≡_, sym, ap, ap₂, _∙_}
+use mathlib.Core.Path.{sym, ap, ap₂, _∙_}
 use native.Mathlib.Omega.{arith}
 use Rattle.words.specs.Width.{widthBits}
 use Rattle.agreement.specs.Agreement.{seen}
 use Rattle.bus.specs.declared.station.Link.{Link}
 use Rattle.bus.specs.declared.trial.Outcome.{Outcome}
-use Rattle.bus.specs.Begin.{refusedBy}
+use Rattle.bus.specs.Begin.{unpairedBy}
 use Rattle.bus.specs.Trial.{startOf}
 use Rattle.bus.specs.View.{stateOf}
 use Rattle.bus.proofs.BeginLaws.{small-exponents}
 use Rattle.bus.proofs.StationLaws.{same-pair}
 use Rattle.bus.proofs.TrialLaws.{fresh-end, linked, ran-refused, ran-events}
 use borrow.Author.Needs.{needs}
-use Rattle.bus.proofs.exchange.exchange.Statement.{statement}
-use Rattle.bus.proofs.exchange.exchange.Tie as tie
+use Rattle.bus.proofs.pair.run_pair.Statement.{statement}
+use Rattle.bus.proofs.pair.run_pair.Tie as tie
 
 returns : tie.Need-returns
 returns c =
     let c₄ = c .before .before .before .before in
     let a = c₄ .before .before .before .before .before .before .before .before .args in
     let k = widthBits (a .width) in
-    let told = c .before .before .is-refused in
+    let told = c .before .before .is-unpaired in
     let g = c₄ .before .before .fresh in
     let h = c₄ .before .fresh2 in
     let l = c .left .ensures in
@@ -35,7 +35,7 @@ returns c =
           λ gr gw ar aw pg pa.
           ran-refused k (startOf (a .gate .board) gr gw) (startOf (a .antenna .board) ar aw) (a .events .now) (c .left .result)
           (a .gate-words .now) (a .antenna-words .now)
-          (ap₂ (refusedBy k (a .gate .board) (a .antenna .board)) (sym (pg .length)) (sym (pa .length))
+          (ap₂ (unpairedBy k (a .gate .board) (a .antenna .board)) (sym (pg .length)) (sym (pa .length))
           ∙ sym (told .ensures)
           ∙ c .before .if1 .taken)
           (ap (λ (x : Outcome). x .number) l)
@@ -54,7 +54,7 @@ run-requires c κs =
     let c₁₀ = c₄ .before .before .before .before .before .before in
     let a = c₁₀ .before .before .before .before .before .before .before .args in
     let small = small-exponents (widthBits (a .width)) (a .gate .board) (a .antenna .board) (a .gate .total) (a .antenna .total)
-    (sym (c₄ .before .before .before .is-refused .ensures) ∙ c₄ .before .before .if1 .left) in
+    (sym (c₄ .before .before .before .is-unpaired .ensures) ∙ c₄ .before .before .if1 .left) in
     record {
       gateExponent = omega (arith, small .0, ap (λ (l : Link). l .exponent) (c₄ .before .link .ensures));
       antennaExponent = omega (arith, small .1, ap (λ (l : Link). l .exponent) (c₄ .link2 .ensures));
@@ -72,7 +72,7 @@ returns-2 c =
     let c₂₃ = c₁₄ .before .before .before .before .before .before .before .before .before in
     let a = c₂₃ .args in
     let k = widthBits (a .width) in
-    let told = c₁₀ .before .before .before .is-refused in
+    let told = c₁₀ .before .before .before .is-unpaired in
     let g = c₁₄ .before .before .before .fresh in
     let h = c₁₄ .before .before .fresh2 in
     let r = c₅ .run in
@@ -83,7 +83,7 @@ returns-2 c =
       antennaPlaces = omega (arith, ap (λ (x : Outcome). x .antenna .station .received) l, r .ensures .0 .antennaWords, sizes .1);
       ran = λ gr gw ar aw pg pa.
           let not-refused =
-          ap₂ (refusedBy k (a .gate .board) (a .antenna .board)) (sym (pg .length)) (sym (pa .length))
+          ap₂ (unpairedBy k (a .gate .board) (a .antenna .board)) (sym (pg .length)) (sym (pa .length))
           ∙ sym (told .ensures)
           ∙ c₁₀ .before .before .if1 .left in
           ran-events k (startOf (a .gate .board) gr gw) (startOf (a .antenna .board) ar aw) (a .events .now) (c .left2 .result)
@@ -101,8 +101,8 @@ returns-2 c =
           );
     }
 
-pub exchange-spec : {M : Type 1} → statement M
-exchange-spec =
+pub run-pair-spec : {M : Type 1} → statement M
+run-pair-spec =
     tie.close
     (tie.spec
     (λ c κs. search needs)

@@ -1,12 +1,12 @@
--- `is_refused` meets its contract, test by test.
+-- `is_unpaired` meets its contract, test by test.
 -- Assumes nothing.
 use mathlib.Core.Path.{ap, _∙_}
 use Rattle.words.specs.Command.{lsbfOf}
 use Rattle.words.specs.Width.{widthBits}
 use Rattle.bus.proofs.BeginLaws.{refused-buffers, refused-gate, refused-antenna, refused-width, refused-order, refused-length}
 use borrow.Author.Needs.{needs}
-use Rattle.bus.proofs.begin.is_refused.Statement.{statement}
-use Rattle.bus.proofs.begin.is_refused.Tie as tie
+use Rattle.bus.proofs.begin.is_unpaired.Statement.{statement}
+use Rattle.bus.proofs.begin.is_unpaired.Tie as tie
 
 returns : tie.Need-returns
 returns c =
@@ -63,8 +63,8 @@ returns-6 c =
     (c₄ .before .lsbf .ensures .0 ∙ ap lsbfOf (c₄ .before .before .bit-order .ensures))
     (c .before .before .before .lsbf2 .ensures .0 ∙ ap lsbfOf (c₄ .bit-order2 .ensures)) (c .before .before .if5 .left)
 
-pub is-refused-spec : {M : Type 1} → statement M
-is-refused-spec =
+pub is-unpaired-spec : {M : Type 1} → statement M
+is-unpaired-spec =
     tie.close
     (tie.spec
     (λ c κs. search needs)
