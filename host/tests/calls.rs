@@ -164,6 +164,23 @@ fn other_disabled_settings() {
         let run = set_chip_select_polarity(DRIVER, pcs, polarity, 20, &script, log);
         check(run, log, &[off, listed, on].join(", "), "0 9 6 1EB2C3");
     }
+    // To C a chip select is taken modulo 4.
+    let script = [0x0B, 0x0B, 0x0A, 0xFFFF_F3FF, 0xF03, 2];
+    let (mut driver, mut accesses, mut answers) = (DRIVER.number(), 0, 0);
+    log.fill(FOUND);
+    let number = raw::disabled(
+        raw::Disabled::SetChipSelectPolarity as u32,
+        4,
+        0,
+        &mut driver,
+        20,
+        &script,
+        log,
+        &mut accesses,
+        &mut answers,
+    );
+    assert_eq!((number, accesses, answers), (0, 9, 6));
+    assert_eq!(log[12..14], [0x1024, 0x203]);
 }
 
 #[test]

@@ -1,4 +1,4 @@
-//! What the documents name exists, and their lines are short.
+//! What the documents name exists.
 //!
 //! The documents are README.md, CONTRIBUTING.md and docs/*.md. Looked at are
 //!
