@@ -9,7 +9,7 @@ use std::path::{Path, PathBuf};
 pub const OUTSIDE: &[(&str, &str)] = &[
     (
         "lpspi.rs, and its functions and types that stay out or have another name here",
-        "lpspi.rs src/common/lpspi.rs Interrupts array_len clear_fifos enable_dma_receive from_raw interrupts \
+        "lpspi.rs src/common/lpspi.rs Interrupts array_len clear_fifos enable_dma_receive interrupts \
          next_read next_write provider read_ccr set_interrupts spin_receive spin_transmit tdr with_pins without_pins",
     ),
     (
