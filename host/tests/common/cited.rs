@@ -319,13 +319,15 @@ impl<'a> Cited<'a> {
                 .first()
                 .is_some_and(|(word, _)| *word == name)
         };
-        if let Some((module, law)) = span.split_once('.').filter(|_| !is_file(span)) {
-            if module.starts_with(|c: char| c.is_ascii_uppercase()) && whole(module) && whole(law) {
-                let file = format!("{module}.antt");
-                let mut files = repository.ending(&file);
-                let there = files.any(|path| repository.has(path, law));
-                self.place(there, module, law);
-            }
+        if let Some((module, law)) = span.split_once('.').filter(|_| !is_file(span))
+            && module.starts_with(|c: char| c.is_ascii_uppercase())
+            && whole(module)
+            && whole(law)
+        {
+            let file = format!("{module}.antt");
+            let mut files = repository.ending(&file);
+            let there = files.any(|path| repository.has(path, law));
+            self.place(there, module, law);
         }
     }
 
