@@ -42,7 +42,7 @@ def definitions(path):
         if m:
             name = m.group(1)
             found.setdefault(name, set())
-        elif re.match(r'\s*pub record ', line):
+        elif re.match(r'\s*pub (record|data) ', line):
             name = line.split()[2]
             found.setdefault(name, set())
         if name and not line.startswith('use'):

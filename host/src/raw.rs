@@ -24,8 +24,9 @@ pub const BUSLOG_OUTPUT: usize = 131_072;
 
 /// Words of an end's state: the result numbers of its transfer and its flush, or 255;
 /// the flags T and R; the counts of words to be sent and to be read; 16 places for the
-/// words of each, 0 where there is none; the 30 registers by their offset divided by 4.
-pub const END_STATE: usize = 68;
+/// words of each, 0 where there is none; the 30 registers by their offset divided by 4;
+/// the count of commands, which stand before the words to be sent.
+pub const END_STATE: usize = 69;
 
 c_functions! {
     /// The TCR word of a command.

@@ -49,6 +49,12 @@ impl EndState {
         self.0[3] == 1
     }
 
+    /// The commands still queued: they stand before the words to be sent, and leave
+    /// with the first.
+    pub fn commands(&self) -> usize {
+        self.0[END_STATE - 1] as usize
+    }
+
     /// The words still to be sent, in their order.
     pub fn to_send(&self) -> &[u32] {
         &self.0[6..][..self.0[4] as usize]
@@ -61,7 +67,7 @@ impl EndState {
 
     /// The 30 registers, by their offset divided by 4.
     pub fn registers(&self) -> &[u32] {
-        &self.0[38..]
+        &self.0[38..END_STATE - 1]
     }
 }
 

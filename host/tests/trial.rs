@@ -38,7 +38,7 @@ fn trial_of(gate: &mut [u8], antenna: &mut [u8], exponent: usize) -> Result<Tria
 #[test]
 fn both_agree() {
     let (mut gate, mut antenna) = ([0; 7], *b"antenna");
-    let left = trial_of(&mut gate, &mut antenna, 1).expect("a pair");
+    let left = trial_of(&mut gate, &mut antenna, 2).expect("a pair");
     assert_eq!(gate, *b"antenna");
     assert_eq!(antenna, *b"gate\xFF\xFF\xFF");
     for end in [left.gate, left.antenna] {
@@ -46,6 +46,7 @@ fn both_agree() {
         assert!(end.ok_twice());
         assert_eq!([end.transmit_error(), end.receive_error()], [false; 2]);
         assert_eq!([end.to_send(), end.to_read()], [[0; 0]; 2]);
+        assert_eq!(end.commands(), 0);
         // CR and TCR.
         assert_eq!((end.registers()[4], end.registers()[24]), (1, 55));
     }
@@ -81,16 +82,17 @@ fn noise_sets_one_flag() {
     }
 }
 
-/// Trial 2 of crates/trial/stdin: the clock comes before the antenna has sent.
+/// Trial 2 of crates/trial/stdin: the clock comes before the antenna has sent, and its
+/// command stays.
 #[test]
 fn one_says_so() {
     let (mut gate, mut antenna) = ([0], *b"B");
     let happened = "g".repeat(8) + "aaaaac" + &"a".repeat(30) + &"g".repeat(30);
     let in_place = Board {
         in_place: true,
-        ..separate(&mut antenna, b"", 1)
+        ..separate(&mut antenna, b"", 2)
     };
-    let left = trial(separate(&mut gate, b"A", 1), in_place, &events(&happened)).expect("a pair");
+    let left = trial(separate(&mut gate, b"A", 2), in_place, &events(&happened)).expect("a pair");
     assert!(left.gate.ok_twice());
     let end = left.antenna;
     assert_eq!(end.transfer(), Some(Ok(())));
@@ -100,9 +102,35 @@ fn one_says_so() {
     );
     assert!(!end.ok_twice());
     assert_eq!([end.transmit_error(), end.receive_error()], [true, false]);
-    assert_eq!(end.to_send(), [0x42]);
+    assert_eq!((end.commands(), end.to_send()), (1, &[0x42][..]));
     assert_eq!(end.to_read(), []);
     assert_eq!((gate, antenna), ([0], *b"A"));
+}
+
+/// After so many accesses, with an exponent: the commands and words queued. A command
+/// takes a place, so that an exponent of 1 leaves none for a word, and 0 none for it.
+#[test]
+fn a_command_takes_a_place() {
+    let queued = |exponent, steps: &str| {
+        let (mut gate, mut antenna) = ([0; 9], [0; 9]);
+        let [gate, antenna] =
+            [&mut gate, &mut antenna].map(|read| separate(read, b"123456789", exponent));
+        let left = trial(gate, antenna, &events(steps)).expect("a pair");
+        (left.gate.commands(), left.gate.to_send().len())
+    };
+    let many = "g".repeat(60);
+    assert_eq!(queued(0, &many), (0, 0));
+    assert_eq!(queued(1, &many), (1, 0));
+    assert_eq!(queued(2, &many), (1, 1));
+    assert_eq!(queued(3, &many), (1, 2));
+    assert_eq!(queued(4, &many), (1, 3));
+    assert_eq!(queued(4, "ggg"), (0, 0));
+    assert_eq!(queued(4, "gggg"), (1, 0));
+    assert_eq!(queued(4, "gggggggg"), (1, 1));
+    // It leaves with the first word, and not before.
+    assert_eq!(queued(4, "ggggc"), (1, 0));
+    assert_eq!(queued(4, "ggggggggc"), (0, 0));
+    assert_eq!(queued(4, "ggggggggggggc"), (0, 1));
 }
 
 /// Trial 4 of crates/trial/stdin: a word comes to a full FIFO.
@@ -111,7 +139,7 @@ fn a_lost_word() {
     let (mut gate, mut antenna) = ([0; 8], [0; 8]);
     let happened = "ggggggggc".repeat(4) + &"a".repeat(40);
     let mut boards = [
-        separate(&mut gate, b"abcdefgh", 1),
+        separate(&mut gate, b"abcdefgh", 2),
         separate(&mut antenna, b"12345678", 0),
     ];
     for board in &mut boards {
@@ -130,7 +158,7 @@ fn a_lost_word() {
         Some(Err(LpspiError::Fifo(Direction::Rx).into()))
     );
     assert_eq!([end.transmit_error(), end.receive_error()], [true; 2]);
-    assert_eq!(end.to_send(), []);
+    assert_eq!((end.commands(), end.to_send()), (0, &[][..]));
     assert_eq!(end.to_read(), [0x6463_6261]);
 }
 

@@ -202,7 +202,8 @@ impl Lines {
                 flag(end.transmit_error(), " T"),
                 flag(end.receive_error(), " R"),
             );
-            let (sending, receiving) = (queue(end.to_send()), queue(end.to_read()));
+            let sending = " command".repeat(end.commands()) + &queue(end.to_send());
+            let receiving = queue(end.to_read());
             let digits = 2 * size_of::<W>();
             let read: String = read.iter().map(|e| format!(" {e:0digits$x}")).collect();
             text += &format!(
@@ -238,6 +239,8 @@ fn random_trials() {
         "transfer 3",
         "transfer 2",
         "transfer -",
+        "sending command receiving",
+        "sending command 0",
     ] {
         let count = expected.matches(answers).count();
         assert!(count >= 20, "{answers}: {count}");

@@ -36,7 +36,7 @@ use Rattle.agreement.specs.declared.event.Event.the-variants.{Step, Cloc
 use Rattle.agreement.specs.declared.event.Side.{Side}
 use Rattle.agreement.specs.declared.event.Side.the-variants.{Gate, Antenna}
 use Rattle.agreement.specs.Start.{Start, Job, job, transferOf}
-use Rattle.agreement.specs.End.{Wire, End, end, firstDue, endAccess, freshEnd, stepped}
+use Rattle.agreement.specs.End.{wordsIn, Wire, End, end, firstDue, endAccess, freshEnd, stepped}
 use Rattle.agreement.specs.Events.{Pair, atSide, clockedBy, happened, after, freshPair}
 use Rattle.agreement.specs.Course.{entry, accessed, heardBy, logOf, answerIn, answersIn, Makes, Course, startAt, CourseOf}
 
@@ -303,12 +303,14 @@ module _ (g a : Start) (t : Transfer) where
   unfolding happened
   course-event Gate (Step Gate busy) p log c = course-step busy c
   course-event Gate (Step Antenna busy) p log c = no-access c
-  course-event Gate Clock p log c = course-clock Gate (p .gate .wire .transmit) (p .antenna .wire .transmit) p log c
+  course-event Gate Clock p log c =
+      course-clock Gate (wordsIn (p .gate .wire .transmit)) (wordsIn (p .antenna .wire .transmit)) p log c
   course-event Gate (Noise Gate d) p log c = no-access c
   course-event Gate (Noise Antenna d) p log c = no-access c
   course-event Antenna (Step Gate busy) p log c = no-access c
   course-event Antenna (Step Antenna busy) p log c = course-step busy c
-  course-event Antenna Clock p log c = course-clock Antenna (p .gate .wire .transmit) (p .antenna .wire .transmit) p log c
+  course-event Antenna Clock p log c =
+      course-clock Antenna (wordsIn (p .gate .wire .transmit)) (wordsIn (p .antenna .wire .transmit)) p log c
   course-event Antenna (Noise Gate d) p log c = no-access c
   course-event Antenna (Noise Antenna d) p log c = no-access c
 

@@ -1,6 +1,6 @@
 -- DEMAND 3, whole: of every pair of boards that fit, every list of events from fresh.
 -- Assumes nothing.
-use Prim.Native.Nat.{ℕ, zero, suc, _+_, _*_, _^_, _<_}
+use Prim.Native.Nat.{ℕ, zero, suc, _+_, _*_, _^_, _<_, _≤_}
 use mathlib.Core.Bool.{Bool, true, false, _||_}
 use mathlib.Core.List.{List, [], _∷_, _++_}
 use mathlib.Core.Path.{_≡_, refl, sym, ap, ap₂, _∙_, subst}
@@ -13,7 +13,8 @@ use Rattle.words.specs.Command.{frameAccepted}
 use Rattle.words.specs.Word.{laid}
 use Rattle.words.proofs.WordLaws.{Elements}
 use Rattle.words.proofs.BufferLaws.{tabulate-same}
-use Rattle.sequences.specs.declared.access.Access.the-variants.{Send, Receive}
+use Rattle.manual.specs.declared.Register.the-variants.{TCR}
+use Rattle.sequences.specs.declared.access.Access.the-variants.{Write, Send, Receive}
 use Rattle.machine.specs.Transfer.{dueAccess}
 use Rattle.agreement.specs.declared.event.Event.{Event}
 use Rattle.agreement.specs.declared.event.Side.the-variants.{Gate, Antenna}
@@ -22,9 +23,11 @@ use Rattle.agreement.specs.End.{End}
 use Rattle.agreement.specs.Events.{Pair, happened, after, freshPair, pairAfter}
 use Rattle.agreement.specs.Tally.{nothing, tally}
 use Rattle.agreement.specs.Agreement.{OkTwice, bufferOf, Holds, Finish, Agreement, seen}
-use Rattle.agreement.proofs.EndFacts.{own, ok-unhurt, ok-empty, ok-received, receives-below, sends-below}
+use Rattle.agreement.proofs.EndFacts.{own, ok-facts, ok-unhurt, ok-empty, ok-received}
+use Rattle.agreement.proofs.EndFacts.{receives-below, sends-below, command-alone}
 use Rattle.agreement.proofs.PairFacts.{Both, both-after}
 use Rattle.agreement.proofs.FinishFacts.{finish}
+use Rattle.agreement.proofs.WordLists.{nil-of}
 use Rattle.agreement.proofs.StartFacts.{read-within, own-words, keeps, good-fresh, laid-words, Fit, fit}
 
 -- a list of events, and then more
@@ -33,10 +36,11 @@ unfolding after
 after-more j k p [] ws = refl
 after-more j k p (v ∷ vs) ws = after-more j k (happened j k p v) vs ws
 
--- FIFOs that hold more than one word
-more-than-one : (e : ℕ) → 1 < 2 ^ e → 0 < e
-more-than-one zero h = absurd (omega arith)
-more-than-one (suc e) h = omega arith
+-- FIFOs that hold more than two words
+more-than-two : (e : ℕ) → 2 < 2 ^ e → 1 < e
+more-than-two zero h = absurd (omega arith)
+more-than-two (suc zero) h = absurd (omega arith)
+more-than-two (suc (suc e)) h = omega arith
 
 -- the words of one board are those that the other unpacks
 same-words : (g a : Start) → Fit g a
@@ -144,8 +148,9 @@ module _ (g a : Start) (f : Fit g a) (vs : List Event) where
       (x .transfer .work) (x .transfer .reset) (x .flush) (x .received) (x .wire) i (k .1 .antenna .now) h in
       (same-accepted g a f ∙ r .0, subst (λ (m : ℕ). length (x .received) < m) (sym (same-count g a f)) (r .1))
 
-  -- and one is sent only while some are to go
-  pub gate-sends : (i : ℕ) → dueAccess (after-all .gate .transfer) ≡ Send i → (accepted g ≡ true) × (i < frameWords g)
+  -- and one is sent only while some are to go, and never with an exponent of at most 1
+  pub gate-sends : (i : ℕ) → dueAccess (after-all .gate .transfer) ≡ Send i
+      → (accepted g ≡ true) × (i < frameWords g) × (1 < g .board .exponent)
   gate-sends i h =
       let k = known in
       let x = after-all .gate in
@@ -153,26 +158,64 @@ module _ (g a : Start) (f : Fit g a) (vs : List Event) where
       (x .transfer .phase) (x .transfer .work) (x .transfer .reset) (x .flush) (x .received) (x .wire) i
       (k .1 .gate .now) h
 
-  pub antenna-sends : (i : ℕ) → dueAccess (after-all .antenna .transfer) ≡ Send i → (accepted a ≡ true) × (i < frameWords a)
+  pub antenna-sends : (i : ℕ) → dueAccess (after-all .antenna .transfer) ≡ Send i
+      → (accepted a ≡ true) × (i < frameWords a) × (1 < a .board .exponent)
   antenna-sends i h =
       let k = known in
       let x = after-all .antenna in
       let r =
       sends-below n accepts (job a) (own (job g)) (k .0) (k .0) 0 (tally Antenna g a vs) (x .transfer .phase)
       (x .transfer .work) (x .transfer .reset) (x .flush) (x .received) (x .wire) i (k .1 .antenna .now) h in
-      (same-accepted g a f ∙ r .0, subst (λ (m : ℕ). i < m) (sym (same-count g a f)) (r .1))
+      (same-accepted g a f ∙ r .0, subst (λ (m : ℕ). i < m) (sym (same-count g a f)) (r .1), r .2)
+
+  -- A COMMAND IS ONLY EVER WRITTEN INTO AN EMPTY QUEUE, and never with exponent 0
+  pub gate-command-first : (v : ℕ) → dueAccess (after-all .gate .transfer) ≡ Write TCR v
+      → (after-all .gate .wire .transmit ≡ []) × (0 < g .board .exponent)
+  gate-command-first v h =
+      let k = known in
+      let x = after-all .gate in
+      let r =
+      command-alone n accepts (job g) (own (job a)) (k .0) (k .0) (tally Antenna g a vs .madeUp) (tally Gate g a vs)
+      (x .transfer .phase) (x .transfer .work) (x .transfer .reset) (x .flush) (x .received) (x .wire) v
+      (k .1 .gate .now) h in
+      (nil-of (x .wire .transmit) (r .0), r .1)
+
+  pub antenna-command-first : (v : ℕ) → dueAccess (after-all .antenna .transfer) ≡ Write TCR v
+      → (after-all .antenna .wire .transmit ≡ []) × (0 < a .board .exponent)
+  antenna-command-first v h =
+      let k = known in
+      let x = after-all .antenna in
+      let r =
+      command-alone n accepts (job a) (own (job g)) (k .0) (k .0) 0 (tally Antenna g a vs) (x .transfer .phase)
+      (x .transfer .work) (x .transfer .reset) (x .flush) (x .received) (x .wire) v (k .1 .antenna .now) h in
+      (nil-of (x .wire .transmit) (r .0), r .1)
+
+  -- THE BOUND OF (c) IS SHARP: an end with an exponent of at most 1 has Ok twice only where there is no word to send
+  pub gate-shallow : g .board .exponent ≤ 1 → OkTwice (seen (after-all .gate)) → frameWords g ≡ 0
+  gate-shallow h ok =
+      let k = known in
+      let r =
+      ok-facts n accepts (job g) (own (job a)) (k .0) (tally Antenna g a vs .madeUp) (tally Gate g a vs) (after-all .gate)
+      (k .1 .gate) ok in
+      sym (r .1) ∙ r .0 .shallow h
+
+  pub antenna-shallow : a .board .exponent ≤ 1 → OkTwice (seen (after-all .antenna)) → frameWords a ≡ 0
+  antenna-shallow h ok =
+      let k = known in
+      let r = ok-facts n accepts (job a) (own (job g)) (k .0) 0 (tally Antenna g a vs) (after-all .antenna) (k .1 .antenna) ok in
+      same-count g a f ∙ sym (r .1) ∙ r .0 .shallow h
 
 -- (c)
 pub finishes : (g a : Start) → unfit g a ≡ false → (vs : List Event)
     → tally Gate g a vs .flags + tally Antenna g a vs .flags ≡ 0 → accepted g ≡ true
-    → 1 < 2 ^ (g .board .exponent) → 1 < 2 ^ (a .board .exponent) → Finish g a vs
+    → 2 < 2 ^ (g .board .exponent) → 2 < 2 ^ (a .board .exponent) → Finish g a vs
 finishes g a fits vs calm ok eg ea =
     let f = fit g a fits in
     let k = known g a f vs in
     let r =
     finish (frameWords g) (accepted g) (job g) (job a) (f .gateSmall) (f .antennaSmall) (keeps g) (keeps a) (tally Gate g a vs)
     (tally Antenna g a vs) ok
-    (more-than-one (g .board .exponent) eg) (more-than-one (a .board .exponent) ea) (omega (arith, calm)) (omega (arith, calm))
+    (more-than-two (g .board .exponent) eg) (more-than-two (a .board .exponent) ea) (omega (arith, calm)) (omega (arith, calm))
     (frameWords g) (k .0) (pairAfter g a vs) (omega arith) (k .1) in
     record {
       more = r .events;

@@ -1,6 +1,6 @@
 -- What is known of an end after a list of events, by the phase that it is in, and that its steps keep it. `n` is the count of FIFO words
 -- each way, `other` the words that the other end started with. Assumes nothing.
-use Prim.Native.Nat.{ℕ, suc, _+_, _^_, _<_, _≤_}
+use Prim.Native.Nat.{ℕ, zero, suc, _+_, _^_, _<_, _≤_}
 use mathlib.Core.Bool.{Bool, true, false, cond, _||_}
 use mathlib.Core.List.{List, [], _∷_, _++_}
 use mathlib.Core.Path.{_≡_, refl, sym, ap, _∙_, subst}
@@ -44,10 +44,11 @@ use Rattle.runs.specs.Run.{answerOf, receivedAfter, ended}
 use Rattle.runs.proofs.Places.{counted-up, done-phase}
 use Rattle.agreement.specs.declared.register.Role.{Role}
 use Rattle.agreement.specs.declared.register.Role.the-variants.{Sizes as sizes, Status as status, Counts as counts}
-use Rattle.agreement.specs.declared.register.Role.the-variants.{Control as control, Sends as sends, Receives as receives}
-use Rattle.agreement.specs.declared.register.Role.the-variants.{Holds as holds}
+use Rattle.agreement.specs.declared.register.Role.the-variants.{Control as control, Commands as commands}
+use Rattle.agreement.specs.declared.register.Role.the-variants.{Sends as sends, Receives as receives, Holds as holds}
 use Rattle.agreement.specs.Start.{Job}
-use Rattle.agreement.specs.End.{Wire, queues, lowered, full, front, behind, emptiedIf, roleOf, placeOf, shows, readBy}
+use Rattle.agreement.specs.End.{Item, Command as aCommand, Word, Wire, queues, lowered, full, wordsIn, front, behind, emptiedIf}
+use Rattle.agreement.specs.End.{roleOf, placeOf, shows, readBy}
 use Rattle.agreement.specs.End.{writtenBy, answerTo, wireAfter, freshWire, End, end, firstDue, endAccess, stepped}
 use Rattle.agreement.specs.Tally.{Tally, nothing, overrun, overrunBy}
 use Rattle.agreement.specs.Agreement.{OkTwice, Emptied, seen}
@@ -55,6 +56,7 @@ use Rattle.agreement.proofs.ShownLaws.{shows-t, shows-r, shows-exponent
 use Rattle.agreement.proofs.ShownLaws.{below-capacity, capacity-small}
 use Rattle.agreement.proofs.WordLists.{from, length-snoc, snoc-is, uncons, length-behind, emptied-less}
 use Rattle.agreement.proofs.WordLists.{emptied-is, lowered-set, false-true, nil-of, all-from}
+use Rattle.agreement.proofs.QueueLaws.{AtFront, words-most, words-snoc, more-words, front-snoc, command-only, emptied-words}
 use Rattle.agreement.proofs.RecoveryFacts.{silent, Quiet, recovery-quiet}
 
 -- the word at a place is that of the start while fewer words were received
@@ -65,6 +67,10 @@ Keeps j = (rs : List ℕ) (i : ℕ) → length rs ≤ i → j .words rs i ≡ j 
 abbrev pub own : Job → ℕ → ℕ
 own j i = j .words [] i
 
+-- after the command: with no word sent yet, it is still queued
+abbrev pub Begun : Work → Wire → Type 0
+Begun k w = k .sent ≡ 0 → 0 < length (w .transmit)
+
 -- accesses that send nothing
 quiet-sends : (a : Access) {i : ℕ} → Quiet a → a ≡ SendWord i → ⊥
 quiet-sends a {i} h e = subst (λ (x : Access). Quiet x) e h
@@ -72,8 +78,18 @@ quiet-sends a {i} h e = subst (λ (x : Access). Quiet x) e h
 read-sends : {r : Register} {i : ℕ} → Read r ≡ SendWord i → ⊥
 read-sends h = let z : _≡_ {A = ℕ} 0 1 = cc in omega arith
 
+write-sends : {r : Register} {v i : ℕ} → Write r v ≡ SendWord i → ⊥
+write-sends h = let z : _≡_ {A = ℕ} 0 1 = cc in omega arith
+
 done-sends : {x : Ending} {i : ℕ} → Done x ≡ SendWord i → ⊥
 done-sends h = let z : _≡_ {A = ℕ} 0 1 = cc in omega arith
+
+-- accesses that write nothing
+read-writes : {r s : Register} {v : ℕ} → Read r ≡ Write s v → ⊥
+read-writes h = let z : _≡_ {A = ℕ} 0 1 = cc in omega arith
+
+done-writes : {x : Ending} {r : Register} {v : ℕ} → Done x ≡ Write r v → ⊥
+done-writes h = let z : _≡_ {A = ℕ} 0 1 = cc in omega arith
 
 -- the place of a word that is sent
 place : Access → ℕ
@@ -93,6 +109,9 @@ not-read h = let z : _≡_ {A = ℕ} 0 1 = cc in omega arith
 not-sent : {j i : ℕ} → SendWord j ≡ ReceiveWord i → ⊥
 not-sent h = let z : _≡_ {A = ℕ} 0 1 = cc in omega arith
 
+not-written : {r : Register} {v i : ℕ} → Write r v ≡ ReceiveWord i → ⊥
+not-written h = let z : _≡_ {A = ℕ} 0 1 = cc in omega arith
+
 not-done : {x : Ending} {i : ℕ} → Done x ≡ ReceiveWord i → ⊥
 not-done h = let z : _≡_ {A = ℕ} 0 1 = cc in omega arith
 
@@ -105,8 +124,12 @@ module _ (n : ℕ) (accepts : Bool) (j : Job) (other : ℕ → ℕ) where
     pub toReceive : k .receive ≡ n
     pub taken : k .received ≡ length rs
     pub inEq : length rs + length (w .receive) + τ .lost ≡ c
-    pub outEq : t + length (w .transmit) ≡ k .sent + τ .madeUp
+    pub outEq : t + length (wordsIn (w .transmit)) ≡ k .sent + τ .madeUp
     pub most : k .sent ≤ n
+    -- a command stands before every word, and waits for the first; with an exponent of at most 1 no word follows it
+    pub first : AtFront (w .transmit)
+    pub unsent : length (wordsIn (w .transmit)) < length (w .transmit) → (k .sent ≡ length (wordsIn (w .transmit))) × (0 < n)
+    pub shallow : j .exponent ≤ 1 → k .sent ≡ 0
     pub rxIs : τ .lost ≡ 0 → m ≡ 0 → w .receive ≡ from other (length rs) (length (w .receive))
     pub gotIs : τ .lost ≡ 0 → m ≡ 0 → rs ≡ from other 0 (length rs)
 
@@ -131,12 +154,14 @@ module _ (n : ℕ) (accepts : Bool) (j : Job) (other : ℕ → ℕ) where
 
   -- what is known in each phase
   abbrev pub Now : Stage → Flush → ℕ → ℕ → ℕ → Tally → Work → List ℕ → Wire → Type 0
-  Now (Space q) f t c m τ k rs w = Core t c m τ k rs w × (f ≡ FlushStatus) × Asked q × (k .sent < n) × (k .sent ≡ 0)
-  Now Command f t c m τ k rs w = Core t c m τ k rs w × (f ≡ FlushStatus) × (k .sent < n)
-  Now (Sending q) f t c m τ k rs w = Core t c m τ k rs w × (f ≡ FlushStatus) × Asked q × (k .sent < n)
-  Now Send f t c m τ k rs w = Core t c m τ k rs w × (f ≡ FlushStatus) × (k .sent < n) × (length (w .transmit) < j .exponent)
-  Now (Receiving q) f t c m τ k rs w = Core t c m τ k rs w × (f ≡ FlushStatus) × (length rs < n)
-  Now Receive f t c m τ k rs w = Core t c m τ k rs w × (f ≡ FlushStatus) × (length rs < n) × (0 < length (w .receive))
+  Now (Space q) f t c m τ k rs w =
+      Core t c m τ k rs w × (f ≡ FlushStatus) × Asked q × (k .sent < n) × (k .sent ≡ 0) × (length (w .transmit) ≡ 0)
+  Now Command f t c m τ k rs w =
+      Core t c m τ k rs w × (f ≡ FlushStatus) × (k .sent < n) × (k .sent ≡ 0) × (length (w .transmit) ≡ 0) × (0 < j .exponent)
+  Now (Sending q) f t c m τ k rs w = Core t c m τ k rs w × (f ≡ FlushStatus) × Asked q × (k .sent < n) × Begun k w
+  Now Send f t c m τ k rs w = Core t c m τ k rs w × (f ≡ FlushStatus) × (k .sent < n) × (length (w .transmit) < j .exponent) × Begun k w
+  Now (Receiving q) f t c m τ k rs w = Core t c m τ k rs w × (f ≡ FlushStatus) × (length rs < n) × Begun k w
+  Now Receive f t c m τ k rs w = Core t c m τ k rs w × (f ≡ FlushStatus) × (length rs < n) × (0 < length (w .receive)) × Begun k w
   Now (Recovery d) f t c m τ k rs w = 0 < τ .flags
   Now (Ended Ok) f t c m τ k rs w = NowFlush f t c m τ k rs w
   Now (Ended (Err FrameSize)) f t c m τ k rs w = accepts ≡ false
@@ -151,8 +176,9 @@ module _ (n : ℕ) (accepts : Bool) (j : Job) (other : ℕ → ℕ) where
     pub small : t ≤ n
     pub capT : length (w .transmit) ≤ 2 ^ j .exponent
     pub capR : length (w .receive) ≤ 2 ^ j .exponent
-    pub room : t + length (w .transmit) ≤ n + τ .madeUp
-    pub txIs : τ .madeUp ≡ 0 → w .transmit ≡ from (own j) t (length (w .transmit))
+    pub room : t + length (wordsIn (w .transmit)) ≤ n + τ .madeUp
+    pub txIs : τ .madeUp ≡ 0 → wordsIn (w .transmit) ≡ from (own j) t (length (wordsIn (w .transmit)))
+    pub made : τ .madeUp ≤ t
     pub lostLe : τ .lost ≤ τ .flags
     pub madeLe : τ .madeUp ≤ τ .flags
     pub setT : w .t ≡ true → 0 < τ .flags
@@ -185,7 +211,7 @@ module _ (n : ℕ) (accepts : Bool) (j : Job) (other : ℕ → ℕ) where
   quiet-first (ReceiveWord i) later h = absurd h
   quiet-first (Done x) later h = absurd h
 
-  not-full : (queue : List ℕ) → length queue < 2 ^ j .exponent → full (j .exponent) queue ≡ false
+  not-full : (queue : List Item) → length queue < 2 ^ j .exponent → full (j .exponent) queue ≡ false
   not-full queue h = lt-leb (2 ^ j .exponent) (length queue) h
 
   module _ (small-e : j .exponent ≤ 4) (keeps : Keeps j) (c m : ℕ) (τ : Tally) where
@@ -217,31 +243,34 @@ module _ (n : ℕ) (accepts : Bool) (j : Job) (other : ℕ → ℕ) where
         (x, omega (arith, x .toSend, x .most), omega (arith, x .toReceive, x .taken, x .inEq))
 
     pub now-receive-turn : (f : Flush) (k : Work) (rs : List ℕ) (w : Wire) → c ≤ n → f ≡ FlushStatus → Core c c m τ k rs w
-        → At (receiveTurn k) f k rs w
-    now-receive-turn f k rs w l e x =
+        → Begun k w → At (receiveTurn k) f k rs w
+    now-receive-turn f k rs w l e x b =
         now-cond (ltb (k .received) (k .receive)) (Receiving Status) (cond (ltb (k .sent) (k .send)) (Sending Status) (Ended Ok)) f k rs w
-        (λ h. (x, e, omega (arith, ltb-true (k .received) (k .receive) h, x .taken, x .toReceive)))
+        (λ h. (x, e, omega (arith, ltb-true (k .received) (k .receive) h, x .taken, x .toReceive), b))
         (λ h.
         now-cond (ltb (k .sent) (k .send)) (Sending Status) (Ended Ok) f k rs w
-        (λ h′. (x, e, tt, omega (arith, ltb-true (k .sent) (k .send) h′, x .toSend)))
+        (λ h′. (x, e, tt, omega (arith, ltb-true (k .sent) (k .send) h′, x .toSend), b))
         (λ h′. all-done f k rs w l e x (ltb-false (k .sent) (k .send) h′) (ltb-false (k .received) (k .receive) h)))
 
     pub now-send-turn : (f : Flush) (k : Work) (rs : List ℕ) (w : Wire) → c ≤ n → f ≡ FlushStatus → Core c c m τ k rs w
-        → At (sendTurn k) f k rs w
-    now-send-turn f k rs w l e x =
+        → Begun k w → At (sendTurn k) f k rs w
+    now-send-turn f k rs w l e x b =
         now-cond (ltb (k .sent) (k .send)) (Sending Status) (cond (ltb (k .received) (k .receive)) (Receiving Status) (Ended Ok)) f k rs w
-        (λ h. (x, e, tt, omega (arith, ltb-true (k .sent) (k .send) h, x .toSend)))
+        (λ h. (x, e, tt, omega (arith, ltb-true (k .sent) (k .send) h, x .toSend), b))
         (λ h.
         now-cond (ltb (k .received) (k .receive)) (Receiving Status) (Ended Ok) f k rs w
-        (λ h′. (x, e, omega (arith, ltb-true (k .received) (k .receive) h′, x .taken, x .toReceive)))
+        (λ h′. (x, e, omega (arith, ltb-true (k .received) (k .receive) h′, x .taken, x .toReceive), b))
         (λ h′. all-done f k rs w l e x (ltb-false (k .sent) (k .send) h) (ltb-false (k .received) (k .receive) h′)))
 
     -- A WORD SENT
     abbrev pub pushed : List ℕ → Work → Wire → Wire
-    pushed rs k w = queues (w .transmit ++ (j .words rs (k .sent) ∷ [])) (w .receive) w
+    pushed rs k w = queues (w .transmit ++ (Word (j .words rs (k .sent)) ∷ [])) (w .receive) w
 
-    pub core-send : (k : Work) (rs : List ℕ) (w : Wire) → Core c c m τ k rs w → k .sent < n → Core c c m τ (oneSent k) rs (pushed rs k w)
-    core-send k rs w x l =
+    pub core-send : (k : Work) (rs : List ℕ) (w : Wire) → Core c c m τ k rs w → k .sent < n → length (w .transmit) < j .exponent
+        → Begun k w → Core c c m τ (oneSent k) rs (pushed rs k w)
+    core-send k rs w x l f b =
+        let v = j .words rs (k .sent) in
+        let more = more-words (w .transmit) v in
         let up : counted (k .sent) (k .send) ≡ k .sent + 1 = counted-up (k .sent) (k .send) (omega (arith, x .toSend)) in
         record {
           yes = x .yes;
@@ -249,8 +278,12 @@ module _ (n : ℕ) (accepts : Bool) (j : Job) (other : ℕ → ℕ) where
           toReceive = x .toReceive;
           taken = x .taken;
           inEq = x .inEq;
-          outEq = omega (arith, up, x .outEq, length-snoc (w .transmit) (j .words rs (k .sent)));
+          outEq = omega (arith, up, x .outEq, more);
           most = omega (arith, up);
+          first = front-snoc (w .transmit) v (x .first);
+          unsent = λ h.
+              let z = x .unsent (omega (arith, h, more, length-snoc (w .transmit) (Word v))) in (omega (arith, up, z .0, more), z .1);
+          shallow = λ h. let z = b (x .shallow h) in absurd (omega (arith, z));
           rxIs = x .rxIs;
           gotIs = x .gotIs;
         }
@@ -258,16 +291,57 @@ module _ (n : ℕ) (accepts : Bool) (j : Job) (other : ℕ → ℕ) where
     pub base-send : (k : Work) (rs : List ℕ) (w : Wire) → Core c c m τ k rs w → k .sent < n → length (w .transmit) < j .exponent
         → Base c τ w → Base c τ (pushed rs k w)
     base-send k rs w x l f B =
-        let one = length-snoc (w .transmit) (j .words rs (k .sent)) in
+        let v = j .words rs (k .sent) in
+        let words = wordsIn (w .transmit) in
         record {
           small = B .small;
-          capT = omega (arith, one, below-capacity (j .exponent));
+          capT = omega (arith, length-snoc (w .transmit) (Word v), below-capacity (j .exponent));
           capR = B .capR;
-          room = omega (arith, one, x .outEq);
+          room = omega (arith, more-words (w .transmit) v, x .outEq);
           txIs = λ h.
-              snoc-is (own j) c (w .transmit) (j .words rs (k .sent)) (B .txIs h)
+              rw words-snoc
+              (snoc-is (own j) c words v (B .txIs h)
               (keeps rs (k .sent) (omega (arith, x .inEq, x .outEq, h))
-              ∙ ap (own j) (let e : k .sent ≡ c + length (w .transmit) = omega (arith, x .outEq, h) in e));
+              ∙ ap (own j) (let e : k .sent ≡ c + length words = omega (arith, x .outEq, h) in e)));
+          made = B .made;
+          lostLe = B .lostLe;
+          madeLe = B .madeLe;
+          setT = B .setT;
+          setR = B .setR;
+        }
+
+    -- A COMMAND, where nothing is queued
+    abbrev pub commanded : Wire → Wire
+    commanded w = queues (w .transmit ++ (aCommand ∷ [])) (w .receive) w
+
+    pub core-command : (k : Work) (rs : List ℕ) (w : Wire) → Core c c m τ k rs w → k .sent < n → k .sent ≡ 0 → length (w .transmit) ≡ 0
+        → Core c c m τ k rs (commanded w)
+    core-command k rs w x l z h =
+        let none = words-most (w .transmit) in
+        record {
+          yes = x .yes;
+          toSend = x .toSend;
+          toReceive = x .toReceive;
+          taken = x .taken;
+          inEq = x .inEq;
+          outEq = rw (command-only (w .transmit) h) (omega (arith, x .outEq, none, h));
+          most = x .most;
+          first = rw (command-only (w .transmit) h) refl;
+          unsent = λ h′. (rw (command-only (w .transmit) h) z, omega arith);
+          shallow = x .shallow;
+          rxIs = x .rxIs;
+          gotIs = x .gotIs;
+        }
+
+    pub base-command : (w : Wire) → length (w .transmit) ≡ 0 → Base c τ w → Base c τ (commanded w)
+    base-command w h B =
+        record {
+          small = B .small;
+          capT = omega (arith, h, length-snoc (w .transmit) aCommand, below-capacity (j .exponent));
+          capR = B .capR;
+          room = rw (command-only (w .transmit) h) (omega (arith, B .room));
+          txIs = λ h′. rw (command-only (w .transmit) h) refl;
+          made = B .made;
           lostLe = B .lostLe;
           madeLe = B .madeLe;
           setT = B .setT;
@@ -292,6 +366,9 @@ module _ (n : ℕ) (accepts : Bool) (j : Job) (other : ℕ → ℕ) where
           inEq = omega (arith, one, len, x .inEq);
           outEq = x .outEq;
           most = x .most;
+          first = x .first;
+          unsent = x .unsent;
+          shallow = x .shallow;
           rxIs = λ a b.
               let z : v ∷ queue ≡ from other (length rs) (length (v ∷ queue)) =
               subst (λ (q : List ℕ). q ≡ from other (length rs) (length q)) e (x .rxIs a b) in
@@ -310,6 +387,7 @@ module _ (n : ℕ) (accepts : Bool) (j : Job) (other : ℕ → ℕ) where
       capR = omega (arith, length-behind queue, ap length e);
       room = B .room;
       txIs = B .txIs;
+      made = B .made;
       lostLe = B .lostLe;
       madeLe = B .madeLe;
       setT = B .setT;
@@ -323,8 +401,9 @@ module _ (n : ℕ) (accepts : Bool) (j : Job) (other : ℕ → ℕ) where
       small = B .small;
       capT = omega (arith, emptied-less z (w .transmit));
       capR = omega (arith, emptied-less z′ (w .receive));
-      room = omega (arith, emptied-less z (w .transmit));
-      txIs = λ h. emptied-is z (w .transmit) (own j) c (B .txIs h);
+      room = rw (emptied-words z (w .transmit)) (omega (arith, B .room, emptied-less z (wordsIn (w .transmit))));
+      txIs = λ h. rw (emptied-words z (w .transmit)) (emptied-is z (wordsIn (w .transmit)) (own j) c (B .txIs h));
+      made = B .made;
       lostLe = B .lostLe;
       madeLe = B .madeLe;
       setT = λ h. B .setT (lowered-set y (w .t) h);
@@ -336,6 +415,7 @@ module _ (n : ℕ) (accepts : Bool) (j : Job) (other : ℕ → ℕ) where
     base-read status w B = B
     base-read counts w B = B
     base-read control w B = B
+    base-read commands w B = B
     base-read sends w B = B
     base-read receives w B = base-receive (w .receive) w refl B
     base-read holds w B = B
@@ -440,14 +520,23 @@ module _ (n : ℕ) (accepts : Bool) (j : Job) (other : ℕ → ℕ) where
           (λ h. B .setT (sym (shown-t y w g) ∙ h)) (λ h. N);
     }
     keep-step y (Space Sizes) k q f rs w g B N =
-        record { base = B; now = (N .0, N .1, shows-exponent (j .exponent) y w (getD g (placeOf PARAM) 0) small-e, N .3, N .4) }
+        record { base = B; now = (N .0, N .1, shows-exponent (j .exponent) y w (getD g (placeOf PARAM) 0) small-e, N .3, N .4, N .5) }
     keep-step y (Space (Counts v)) k q f rs w g B N = record {
       base = B;
       now =
-          now-polled spaceBy (ready Tx v (shows (j .exponent) y w g FSR)) Ready Unready f k rs w (λ h. (N .0, N .1, N .3))
-          (λ h. (N .0, N .1, tt, N .3, N .4));
+          let counted = readField (Fsr TXCOUNT) (shows (j .exponent) y w g FSR) in
+          now-polled spaceBy (ready Tx v (shows (j .exponent) y w g FSR)) Ready Unready f k rs w
+          (λ h. (N .0, N .1, N .3, N .4, N .5, omega (arith, ltb-true counted (readField (Param TXFIFO) v) h, N .2)))
+          (λ h. (N .0, N .1, tt, N .3, N .4, N .5));
     }
-    keep-step y Command k q f rs w g B N = record { base = B; now = now-send-turn f k rs w (B .small) (N .1) (N .0) }
+    keep-step y Command k q f rs w g B N =
+        rw (not-full (w .transmit) (omega (arith, below-capacity (j .exponent), N .4)))
+        (record {
+          base = base-command w (N .4) B;
+          now =
+              now-send-turn f k rs (commanded w) (B .small) (N .1) (core-command k rs w (N .0) (N .2) (N .3) (N .4))
+              (λ h. omega (arith, length-snoc (w .transmit) aCommand));
+        })
     keep-step y (Sending Status) k q f rs w g B N = record {
       base = B;
       now =
@@ -455,20 +544,22 @@ module _ (n : ℕ) (accepts : Bool) (j : Job) (other : ℕ → ℕ) where
           (λ h. B .setT (sym (shown-t y w g) ∙ h)) (λ h. N);
     }
     keep-step y (Sending Sizes) k q f rs w g B N =
-        record { base = B; now = (N .0, N .1, shows-exponent (j .exponent) y w (getD g (placeOf PARAM) 0) small-e, N .3) }
+        record { base = B; now = (N .0, N .1, shows-exponent (j .exponent) y w (getD g (placeOf PARAM) 0) small-e, N .3, N .4) }
     keep-step y (Sending (Counts v)) k q f rs w g B N = record {
       base = B;
       now =
           let counted = readField (Fsr TXCOUNT) (shows (j .exponent) y w g FSR) in
           now-polled (sendingBy k) (ready Tx v (shows (j .exponent) y w g FSR)) Ready Unready f k rs w
-          (λ h. (N .0, N .1, N .3, omega (arith, shown-transmit y w g B, ltb-true counted (readField (Param TXFIFO) v) h, N .2)))
-          (λ h. now-receive-turn f k rs w (B .small) (N .1) (N .0));
+          (λ h. (N .0, N .1, N .3, omega (arith, shown-transmit y w g B, ltb-true counted (readField (Param TXFIFO) v) h, N .2), N .4))
+          (λ h. now-receive-turn f k rs w (B .small) (N .1) (N .0) (N .4));
     }
     keep-step y Send k q f rs w g B N =
         rw (not-full (w .transmit) (omega (arith, below-capacity (j .exponent), N .3)))
         (record {
           base = base-send k rs w (N .0) (N .2) (N .3) B;
-          now = now-send-turn f (oneSent k) rs (pushed rs k w) (B .small) (N .1) (core-send k rs w (N .0) (N .2));
+          now =
+              now-send-turn f (oneSent k) rs (pushed rs k w) (B .small) (N .1) (core-send k rs w (N .0) (N .2) (N .3) (N .4))
+              (λ h. omega (arith, length-snoc (w .transmit) (Word (j .words rs (k .sent)))));
         })
     keep-step y (Receiving Status) k q f rs w g B N = record {
       base = B;
@@ -482,14 +573,14 @@ module _ (n : ℕ) (accepts : Bool) (j : Job) (other : ℕ → ℕ) where
       now =
           let there = readField (Fsr RXCOUNT) (shows (j .exponent) y w g FSR) in
           now-polled (receivingBy k) (ready Rx v (shows (j .exponent) y w g FSR)) Ready Unready f k rs w
-          (λ h. (N .0, N .1, N .2, omega (arith, shown-receive y w g B, ltb-true 0 there h)))
-          (λ h. now-send-turn f k rs w (B .small) (N .1) (N .0));
+          (λ h. (N .0, N .1, N .2, omega (arith, shown-receive y w g B, ltb-true 0 there h), N .3))
+          (λ h. now-send-turn f k rs w (B .small) (N .1) (N .0) (N .3));
     }
     keep-step y Receive k q f rs w g B N = record {
       base = base-receive (w .receive) w refl B;
       now =
           now-receive-turn f (oneReceived k) (rs ++ (front (w .receive) ∷ [])) (queues (w .transmit) (behind (w .receive)) w)
-          (B .small) (N .1) (core-receive k rs (w .receive) w refl (N .0) (N .2) (N .3));
+          (B .small) (N .1) (core-receive k rs (w .receive) w refl (N .0) (N .2) (N .3)) (N .4);
     }
     keep-step y (Recovery d) k q f rs w g B N = keep-recovery y d k q f rs w g B N
     keep-step y (Ended Ok) k q f rs w g B N = keep-flush y k q f rs w g B N
@@ -514,7 +605,7 @@ module _ (n : ℕ) (accepts : Bool) (j : Job) (other : ℕ → ℕ) where
   no-overrun t c m τ (Space Status) k q f rs w N = refl
   no-overrun t c m τ (Space Sizes) k q f rs w N = refl
   no-overrun t c m τ (Space (Counts v)) k q f rs w N = refl
-  no-overrun t c m τ Command k q f rs w N = refl
+  no-overrun t c m τ Command k q f rs w N = not-full (w .transmit) (omega (arith, below-capacity (j .exponent), N .4))
   no-overrun t c m τ (Sending Status) k q f rs w N = refl
   no-overrun t c m τ (Sending Sizes) k q f rs w N = refl
   no-overrun t c m τ (Sending (Counts v)) k q f rs w N = refl
@@ -528,7 +619,7 @@ module _ (n : ℕ) (accepts : Bool) (j : Job) (other : ℕ → ℕ) where
       ∙ quiet-fits (recoveryAccess q) w (recovery-quiet q)
   no-overrun t c m τ (Ended x) k q f rs w N = flush-fits f w
 
-  -- A PHASE'S FACTS STAY while the transmit queue does not grow and the receive queue does not shrink
+  -- A PHASE'S FACTS STAY while the transmit queue does not grow, its command waits, and the receive queue does not shrink
   flush-stays : (f : Flush) {t c m t′ c′ m′ : ℕ} {τ τ′ : Tally} {k : Work} {rs : List ℕ} {w w′ : Wire}
       → (Core t c m τ k rs w → Core t′ c′ m′ τ′ k rs w′)
       → length (w′ .transmit) ≤ length (w .transmit) → τ .flags ≤ τ′ .flags → NowFlush f t c m τ k rs w → NowFlush f t′ c′ m′ τ′ k rs w′
@@ -544,23 +635,23 @@ module _ (n : ℕ) (accepts : Bool) (j : Job) (other : ℕ → ℕ) where
   flush-stays (Flushed FifoExponent) g a b N = absurd N
 
   pub now-stays : (p : Stage) (f : Flush) {t c m t′ c′ m′ : ℕ} {τ τ′ : Tally} {k : Work} {rs : List ℕ} {w w′ : Wire}
-      → (Core t c m τ k rs w → Core t′ c′ m′ τ′ k rs w′)
+      → (Core t c m τ k rs w → Core t′ c′ m′ τ′ k rs w′) → (Core t c m τ k rs w → Begun k w → Begun k w′)
       → length (w′ .transmit) ≤ length (w .transmit) → length (w .receive) ≤ length (w′ .receive) → τ .flags ≤ τ′ .flags
       → Now p f t c m τ k rs w → Now p f t′ c′ m′ τ′ k rs w′
-  now-stays (Space q) f g a b d N = (g (N .0), N .1, N .2, N .3, N .4)
-  now-stays Command f g a b d N = (g (N .0), N .1, N .2)
-  now-stays (Sending q) f g a b d N = (g (N .0), N .1, N .2, N .3)
-  now-stays Send f g a b d N = (g (N .0), N .1, N .2, omega (arith, N .3))
-  now-stays (Receiving q) f g a b d N = (g (N .0), N .1, N .2)
-  now-stays Receive f g a b d N = (g (N .0), N .1, N .2, omega (arith, N .3))
-  now-stays (Recovery x) f g a b d N = omega (arith, N)
-  now-stays (Ended Ok) f g a b d N = flush-stays f g a d N
-  now-stays (Ended (Err FrameSize)) f g a b d N = N
-  now-stays (Ended (Err (Fifo x))) f g a b d N = omega (arith, N)
-  now-stays (Ended Stopped) f g a b d N = absurd N
-  now-stays (Ended Limits) f g a b d N = absurd N
-  now-stays (Ended ZeroClock) f g a b d N = absurd N
-  now-stays (Ended FifoExponent) f g a b d N = absurd N
+  now-stays (Space q) f g e a b d N = (g (N .0), N .1, N .2, N .3, N .4, omega (arith, N .5))
+  now-stays Command f g e a b d N = (g (N .0), N .1, N .2, N .3, omega (arith, N .4), N .5)
+  now-stays (Sending q) f g e a b d N = (g (N .0), N .1, N .2, N .3, e (N .0) (N .4))
+  now-stays Send f g e a b d N = (g (N .0), N .1, N .2, omega (arith, N .3), e (N .0) (N .4))
+  now-stays (Receiving q) f g e a b d N = (g (N .0), N .1, N .2, e (N .0) (N .3))
+  now-stays Receive f g e a b d N = (g (N .0), N .1, N .2, omega (arith, N .3), e (N .0) (N .4))
+  now-stays (Recovery x) f g e a b d N = omega (arith, N)
+  now-stays (Ended Ok) f g e a b d N = flush-stays f g a d N
+  now-stays (Ended (Err FrameSize)) f g e a b d N = N
+  now-stays (Ended (Err (Fifo x))) f g e a b d N = omega (arith, N)
+  now-stays (Ended Stopped) f g e a b d N = absurd N
+  now-stays (Ended Limits) f g e a b d N = absurd N
+  now-stays (Ended ZeroClock) f g e a b d N = absurd N
+  now-stays (Ended FifoExponent) f g e a b d N = absurd N
 
   -- A WORD IS RECEIVED only while some are to come, in a transfer that was accepted
   pub receives-below : (t c m : ℕ) (τ : Tally) (p : Stage) (k : Work) (q : Sequence) (f : Flush)
@@ -571,7 +662,7 @@ module _ (n : ℕ) (accepts : Bool) (j : Job) (other : ℕ → ℕ) where
   receives-below t c m τ (Space Status) k q f rs w i N h = absurd (not-read h)
   receives-below t c m τ (Space Sizes) k q f rs w i N h = absurd (not-read h)
   receives-below t c m τ (Space (Counts v)) k q f rs w i N h = absurd (not-read h)
-  receives-below t c m τ Command k q f rs w i N h = absurd (not-quiet (Write TCR (k .command)) tt h)
+  receives-below t c m τ Command k q f rs w i N h = absurd (not-written h)
   receives-below t c m τ (Sending Status) k q f rs w i N h = absurd (not-read h)
   receives-below t c m τ (Sending Sizes) k q f rs w i N h = absurd (not-read h)
   receives-below t c m τ (Sending (Counts v)) k q f rs w i N h = absurd (not-read h)
@@ -583,25 +674,51 @@ module _ (n : ℕ) (accepts : Bool) (j : Job) (other : ℕ → ℕ) where
   receives-below t c m τ (Recovery d) k q f rs w i N h = absurd (not-quiet (recoveryAccess q) (recovery-quiet q) h)
   receives-below t c m τ (Ended x) k q f rs w i N h = absurd (not-done h)
 
-  -- A WORD IS SENT only while some are to go, in a transfer that was accepted
+  -- A WORD IS SENT only while some are to go, in a transfer that was accepted, and never with an exponent of at most 1
   pub sends-below : (t c m : ℕ) (τ : Tally) (p : Stage) (k : Work) (q : Sequence) (f : Flush) (rs : List ℕ) (w : Wire) (i : ℕ)
       → Now p f t c m τ k rs w → dueAccess (at p k q) ≡ SendWord i
-      → (accepts ≡ true) × (i < n)
+      → (accepts ≡ true) × (i < n) × (1 < j .exponent)
   unfolding dueAccess place
   sends-below t c m τ (Space Status) k q f rs w i N h = absurd (read-sends h)
   sends-below t c m τ (Space Sizes) k q f rs w i N h = absurd (read-sends h)
   sends-below t c m τ (Space (Counts v)) k q f rs w i N h = absurd (read-sends h)
-  sends-below t c m τ Command k q f rs w i N h = absurd (quiet-sends (Write TCR (k .command)) tt h)
+  sends-below t c m τ Command k q f rs w i N h = absurd (write-sends h)
   sends-below t c m τ (Sending Status) k q f rs w i N h = absurd (read-sends h)
   sends-below t c m τ (Sending Sizes) k q f rs w i N h = absurd (read-sends h)
   sends-below t c m τ (Sending (Counts v)) k q f rs w i N h = absurd (read-sends h)
-  sends-below t c m τ Send k q f rs w i N h = (N .0 .yes, subst (λ (a : Access). place a < n) h (N .2))
+  sends-below t c m τ Send k q f rs w i N h =
+      (N .0 .yes, subst (λ (a : Access). place a < n) h (N .2), above-one (j .exponent) (N .0 .shallow) (N .3) (N .4))
+    where
+      above-one : (e : ℕ) {l s : ℕ} → (e ≤ 1 → s ≡ 0) → l < e → (s ≡ 0 → 0 < l) → 1 < e
+      above-one zero a b d = absurd (omega arith)
+      above-one (suc zero) a b d = let z = d (a (omega arith)) in absurd (omega (arith, z))
+      above-one (suc (suc e)) a b d = omega arith
   sends-below t c m τ (Receiving Status) k q f rs w i N h = absurd (read-sends h)
   sends-below t c m τ (Receiving Sizes) k q f rs w i N h = absurd (read-sends h)
   sends-below t c m τ (Receiving (Counts v)) k q f rs w i N h = absurd (read-sends h)
   sends-below t c m τ Receive k q f rs w i N h = absurd (not-sent (sym h))
   sends-below t c m τ (Recovery d) k q f rs w i N h = absurd (quiet-sends (recoveryAccess q) (recovery-quiet q) h)
   sends-below t c m τ (Ended x) k q f rs w i N h = absurd (done-sends h)
+
+  -- A COMMAND IS WRITTEN only where nothing is queued, and never with exponent 0
+  pub command-alone : (t c m : ℕ) (τ : Tally) (p : Stage) (k : Work) (q : Sequence) (f : Flush) (rs : List ℕ) (w : Wire) (v : ℕ)
+      → Now p f t c m τ k rs w → dueAccess (at p k q) ≡ Write TCR v
+      → (length (w .transmit) ≡ 0) × (0 < j .exponent)
+  unfolding dueAccess
+  command-alone t c m τ (Space Status) k q f rs w v N h = absurd (read-writes h)
+  command-alone t c m τ (Space Sizes) k q f rs w v N h = absurd (read-writes h)
+  command-alone t c m τ (Space (Counts x)) k q f rs w v N h = absurd (read-writes h)
+  command-alone t c m τ Command k q f rs w v N h = (N .4, N .5)
+  command-alone t c m τ (Sending Status) k q f rs w v N h = absurd (read-writes h)
+  command-alone t c m τ (Sending Sizes) k q f rs w v N h = absurd (read-writes h)
+  command-alone t c m τ (Sending (Counts x)) k q f rs w v N h = absurd (read-writes h)
+  command-alone t c m τ Send k q f rs w v N h = absurd (write-sends (sym h))
+  command-alone t c m τ (Receiving Status) k q f rs w v N h = absurd (read-writes h)
+  command-alone t c m τ (Receiving Sizes) k q f rs w v N h = absurd (read-writes h)
+  command-alone t c m τ (Receiving (Counts x)) k q f rs w v N h = absurd (read-writes h)
+  command-alone t c m τ Receive k q f rs w v N h = absurd (not-written (sym h))
+  command-alone t c m τ (Recovery d) k q f rs w v N h = absurd (subst (λ (x : Access). Quiet x) h (recovery-quiet q))
+  command-alone t c m τ (Ended x) k q f rs w v N h = absurd (done-writes h)
 
   -- AT FRESH: empty, accepted or refused
   pub fresh-core : (m : ℕ) (k : Work) → accepts ≡ true → k .send ≡ n → k .receive ≡ n → k .sent ≡ 0 → k .received ≡ 0
@@ -614,6 +731,9 @@ module _ (n : ℕ) (accepts : Bool) (j : Job) (other : ℕ → ℕ) where
     inEq = refl;
     outEq = omega (arith, d);
     most = omega (arith, d);
+    first = refl;
+    unsent = λ h. absurd (omega (arith, h));
+    shallow = λ h. d;
     rxIs = λ h h′. refl;
     gotIs = λ h h′. refl;
   }
@@ -625,6 +745,7 @@ module _ (n : ℕ) (accepts : Bool) (j : Job) (other : ℕ → ℕ) where
     capR = omega arith;
     room = omega arith;
     txIs = λ h. refl;
+    made = omega arith;
     lostLe = omega arith;
     madeLe = omega arith;
     setT = λ h. absurd (false-true h);
@@ -653,12 +774,17 @@ module _ (n : ℕ) (accepts : Bool) (j : Job) (other : ℕ → ℕ) where
           (ok .0) (ok .1) (G .now)
 
       pub ok-unhurt : τ .lost + τ .madeUp ≡ 0
-      ok-unhurt = let k = ok-facts in let B = G .base in omega (arith, k .0 .inEq, k .0 .outEq, k .1, k .2, k .3, B .small)
+      ok-unhurt =
+          let k = ok-facts in
+          let B = G .base in
+          omega (arith, k .0 .inEq, k .0 .outEq, k .1, k .2, k .3, B .small, words-most (x .wire .transmit))
 
       pub ok-empty : Emptied (seen x)
       ok-empty = let k = ok-facts in let B = G .base in record {
         transmit = nil-of (x .wire .transmit) (k .3);
-        receive = nil-of (x .wire .receive) (omega (arith, k .0 .inEq, k .0 .outEq, k .1, k .2, k .3, B .small));
+        receive =
+            nil-of (x .wire .receive)
+            (omega (arith, k .0 .inEq, k .0 .outEq, k .1, k .2, k .3, B .small, words-most (x .wire .transmit)));
       }
 
       pub ok-received : m ≡ 0 → x .received ≡ tabulate n other

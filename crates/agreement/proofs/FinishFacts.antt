@@ -12,11 +12,12 @@ use Rattle.agreement.specs.declared.event.Event.the-variants.{Step, Cloc
 use Rattle.agreement.specs.declared.event.Side.{Side}
 use Rattle.agreement.specs.declared.event.Side.the-variants.{Gate, Antenna}
 use Rattle.agreement.specs.Start.{Job}
-use Rattle.agreement.specs.End.{full, End, stepped}
+use Rattle.agreement.specs.End.{full, wordsIn, End, stepped}
 use Rattle.agreement.specs.Events.{Pair, pair, clockedBy, happened, after}
 use Rattle.agreement.specs.Tally.{Tally}
 use Rattle.agreement.specs.Agreement.{OkTwice, Plain, seen}
 use Rattle.agreement.proofs.ShownLaws.{below-capacity}
+use Rattle.agreement.proofs.QueueLaws.{words-most}
 use Rattle.agreement.proofs.EndFacts.{Keeps, own, ok-facts}
 use Rattle.agreement.proofs.PairFacts.{Both, both-gate-step, both-antenna-step, both-clocked}
 use Rattle.agreement.proofs.SettleFacts.{steps, Settled, over, waits, Leads, leads}
@@ -69,24 +70,25 @@ module _ (n : ℕ) (accepts : Bool) (jg ja : Job) (small-g : jg .exponent ≤ 4)
       antenna-steps i c x (stepped ja false y)
       (both-antenna-step n accepts jg ja small-g small-a keeps-g keeps-a c σ τ (pair x y) false b)
 
-  module _ (a : accepts ≡ true) (pos-g : 0 < jg .exponent) (pos-a : 0 < ja .exponent) (calm-g : σ .flags ≡ 0) (calm-a : τ .flags ≡ 0) where
+  module _ (a : accepts ≡ true) (pos-g : 1 < jg .exponent) (pos-a : 1 < ja .exponent) (calm-g : σ .flags ≡ 0) (calm-a : τ .flags ≡ 0) where
     -- both have settled: both are over, or both wait for a clock
     settled : (c : ℕ) (x y : End) → Bo c (pair x y) → Settled n c x → Settled n c y
-        → (c < n → length (x .wire .receive) ≡ 0 → length (y .wire .receive) ≡ 0 → 0 < length (x .wire .transmit)
-        → 0 < length (y .wire .transmit) → Finishes jg ja (pair x y))
+        → (c < n → length (x .wire .receive) ≡ 0 → length (y .wire .receive) ≡ 0 → 0 < length (wordsIn (x .wire .transmit))
+        → 0 < length (wordsIn (y .wire .transmit)) → Finishes jg ja (pair x y))
         → Finishes jg ja (pair x y)
     unfolding after
     settled c x y b (over h) (over h′) go = record { events = []; plain = tt; gate = h; antenna = h′ }
     settled c x y b (over h) (waits l e f) go =
         let k = ok-facts n accepts jg (own ja) c (τ .madeUp) σ x (b .gate) h in
-        absurd (omega (arith, k .0 .outEq, k .1, k .3, b .gate .base .madeLe))
+        absurd (omega (arith, k .0 .outEq, k .1, k .3, b .gate .base .madeLe, words-most (x .wire .transmit)))
     settled c x y b (waits l e f) (over h) go =
         let k = ok-facts n accepts ja (own jg) c 0 τ y (b .antenna) h in
-        absurd (omega (arith, k .0 .outEq, k .1, k .3, b .antenna .base .madeLe))
+        absurd (omega (arith, k .0 .outEq, k .1, k .3, b .antenna .base .madeLe, words-most (y .wire .transmit)))
     settled c x y b (waits l e f) (waits l′ e′ f′) go = go l e e′ f f′
 
     -- a clock that loses nothing and makes nothing up
-    ticked : (c : ℕ) (p : Pair) (ours theirs : List ℕ) → p .gate .wire .transmit ≡ ours → p .antenna .wire .transmit ≡ theirs
+    ticked : (c : ℕ) (p : Pair) (ours theirs : List ℕ) → wordsIn (p .gate .wire .transmit) ≡ ours
+        → wordsIn (p .antenna .wire .transmit) ≡ theirs
         → 0 < length ours → 0 < length theirs
         → length (p .gate .wire .receive) ≡ 0 → length (p .antenna .wire .receive) ≡ 0 → Bo c p → Bo (suc c) (clockedBy jg ja ours theirs p)
     ticked c p [] theirs eg ea hg ha rg ra b = absurd (omega arith)
@@ -131,5 +133,5 @@ module _ (n : ℕ) (accepts : Bool) (jg ja : Job) (small-g : jg .exponent ≤ 4)
         (by-antenna jg ja (l .count) x (p .antenna)
         (settled c x y b′ (k .settled) (l .settled)
         (λ h rg ra tg ta. by-clock jg ja (pair x y)
-        (finish i (suc c) (clockedBy jg ja (x .wire .transmit) (y .wire .transmit) (pair x y)) (omega arith)
-        (ticked c (pair x y) (x .wire .transmit) (y .wire .transmit) refl refl tg ta rg ra b′)))))
+        (finish i (suc c) (clockedBy jg ja (wordsIn (x .wire .transmit)) (wordsIn (y .wire .transmit)) (pair x y)) (omega arith)
+        (ticked c (pair x y) (wordsIn (x .wire .transmit)) (wordsIn (y .wire .transmit)) refl refl tg ta rg ra b′)))))

@@ -1,5 +1,6 @@
 pub mod ShownLaws
 pub mod WordLists
+pub mod QueueLaws
 mod RecoveryFacts
 pub mod EndFacts
 mod WireFacts

@@ -10,7 +10,7 @@ use Rattle.agreement.specs.declared.event.Event.{Event}
 use Rattle.agreement.specs.declared.event.Event.the-variants.{Step, Clock, Noise}
 use Rattle.agreement.specs.declared.event.Side.the-variants.{Gate, Antenna}
 use Rattle.agreement.specs.Start.{Job}
-use Rattle.agreement.specs.End.{full, End, stepped}
+use Rattle.agreement.specs.End.{full, wordsIn, End, stepped}
 use Rattle.agreement.specs.Events.{Pair, pair, clockedBy, happened, after}
 use Rattle.agreement.specs.Tally.{Tally, noted, waiting, gateNotes, antennaNotes, tallied}
 use Rattle.agreement.proofs.WordLists.{from, uncons}
@@ -31,12 +31,13 @@ module _ (n : ℕ) (accepts : Bool) (jg ja : Job) (small-g : jg .exponent ≤ 4)
     pub antenna : GoodAntenna c c 0 τ (p .antenna)
     pub clean : σ .madeUp ≡ 0
 
-  more-to-clock : (c : ℕ) (σ τ : Tally) (p : Pair) (v : ℕ) (queue : List ℕ) → p .gate .wire .transmit ≡ v ∷ queue → Both c σ τ p → c < n
-  more-to-clock c σ τ p v queue e b = omega (arith, ap length e, b .gate .base .room, b .clean)
+  more-to-clock : (c : ℕ) (σ τ : Tally) (p : Pair) (v : ℕ) (words : List ℕ)
+      → wordsIn (p .gate .wire .transmit) ≡ v ∷ words → Both c σ τ p → c < n
+  more-to-clock c σ τ p v words e b = omega (arith, ap length e, b .gate .base .room, b .clean)
 
   -- a word each way
-  pub both-clocked : (c : ℕ) (σ τ : Tally) (p : Pair) (v u : ℕ) (ours theirs : List ℕ) → p .gate .wire .transmit ≡ v ∷ ours
-      → p .antenna .wire .transmit ≡ u ∷ theirs → Both c σ τ p
+  pub both-clocked : (c : ℕ) (σ τ : Tally) (p : Pair) (v u : ℕ) (ours theirs : List ℕ)
+      → wordsIn (p .gate .wire .transmit) ≡ v ∷ ours → wordsIn (p .antenna .wire .transmit) ≡ u ∷ theirs → Both c σ τ p
       → Both (suc c) (noted (full (jg .exponent) (p .gate .wire .receive)) false false σ)
       (noted (full (ja .exponent) (p .antenna .wire .receive)) false false τ) (clockedBy jg ja (v ∷ ours) (u ∷ theirs) p)
   unfolding clockedBy
@@ -54,8 +55,8 @@ module _ (n : ℕ) (accepts : Bool) (jg ja : Job) (small-g : jg .exponent ≤ 4)
         clean = b .clean;
       }
 
-  both-clock : (c : ℕ) (σ τ : Tally) (p : Pair) (ours theirs : List ℕ) → p .gate .wire .transmit ≡ ours
-      → p .antenna .wire .transmit ≡ theirs → Both c σ τ p
+  both-clock : (c : ℕ) (σ τ : Tally) (p : Pair) (ours theirs : List ℕ) → wordsIn (p .gate .wire .transmit) ≡ ours
+      → wordsIn (p .antenna .wire .transmit) ≡ theirs → Both c σ τ p
       → (c′ : ℕ) × Both c′ (noted (waiting ours && full (jg .exponent) (p .gate .wire .receive)) false false σ)
       (noted (waiting ours && full (ja .exponent) (p .antenna .wire .receive)) (waiting ours && not (waiting theirs)) false τ)
       (clockedBy jg ja ours theirs p)
@@ -119,7 +120,8 @@ module _ (n : ℕ) (accepts : Bool) (jg ja : Job) (small-g : jg .exponent ≤ 4)
             (x .received) (x .wire) (b .antenna .now))
             (both-antenna-step c σ τ p busy b),
       )
-  both-event c σ τ p Clock b = both-clock c σ τ p (p .gate .wire .transmit) (p .antenna .wire .transmit) refl refl b
+  both-event c σ τ p Clock b =
+      both-clock c σ τ p (wordsIn (p .gate .wire .transmit)) (wordsIn (p .antenna .wire .transmit)) refl refl b
   both-event c σ τ p (Noise Gate d) b = (
     c,
     record

@@ -1,4 +1,4 @@
--- The recovery's accesses leave the transmit queue's words in order: reads, and writes that are not to TDR. One test over its table.
+-- The recovery's accesses leave the transmit queue in order: reads, and writes that are not to TDR or TCR. One test over its table.
 -- Assumes nothing.
 use Prim.Native.Nat.{ℕ, zero, suc}
 use mathlib.Core.Bool.{Bool, true, false, _&&_}
@@ -21,21 +21,22 @@ use Rattle.sequences.specs.Sequence.{moveAccess, changeRegister}
 use Rattle.sequences.specs.Status.{cleared, errors}
 use Rattle.agreement.specs.declared.register.Role.{Role}
 use Rattle.agreement.specs.declared.register.Role.the-variants.{Sizes as sizes, Status as status, Counts as counts}
-use Rattle.agreement.specs.declared.register.Role.the-variants.{Control as control, Sends as sends, Receives as receives}
-use Rattle.agreement.specs.declared.register.Role.the-variants.{Holds as holds}
+use Rattle.agreement.specs.declared.register.Role.the-variants.{Control as control, Commands as commands}
+use Rattle.agreement.specs.declared.register.Role.the-variants.{Sends as sends, Receives as receives, Holds as holds}
 use Rattle.agreement.specs.End.{roleOf}
 
--- a write to a register of that role sends nothing
+-- a write to a register of that role queues nothing
 abbrev pub silent : Role → Bool
 silent sizes = true
 silent status = true
 silent counts = true
 silent control = true
+silent commands = false
 silent sends = false
 silent receives = true
 silent holds = true
 
--- an access that is due, sends nothing and receives nothing
+-- an access that is due, queues nothing and receives nothing
 abbrev pub quiet : Access → Bool
 quiet (Read r) = true
 quiet (Write r v) = silent (roleOf r)

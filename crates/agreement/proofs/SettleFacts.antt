@@ -27,13 +27,15 @@ use Rattle.machine.specs.declared.transfer.Work.{Work}
 use Rattle.machine.specs.Transfer.{at, sendTurn, receiveTurn, counted, oneSent, oneReceived, dueAccess, resumed}
 use Rattle.runs.proofs.Places.{counted-up}
 use Rattle.agreement.specs.Start.{Job}
-use Rattle.agreement.specs.End.{Wire, queues, front, behind, placeOf, shows, registersAfter, End, end, stepped}
+use Rattle.agreement.specs.End.{Command as aCommand, Wire, queues, wordsIn, front, behind, placeOf, shows, registersAfter, End, end, stepped}
 use Rattle.agreement.specs.Tally.{Tally}
 use Rattle.agreement.specs.Agreement.{OkTwice, seen}
 use Rattle.agreement.proofs.ShownLaws.{shows-t, shows-r, shows-busy, shows-exponent, below-capacity}
 use Rattle.agreement.proofs.WordLists.{length-snoc, length-behind}
-use Rattle.agreement.proofs.EndFacts.{Keeps, Core, Now, NowFlush, Base, shown-transmit, shown-receive}
-use Rattle.agreement.proofs.EndFacts.{pushed, core-send, base-send, core-receive, base-receive}
+use Rattle.agreement.proofs.QueueLaws.{one-command, more-words}
+use Rattle.agreement.proofs.EndFacts.{Keeps, Begun, Core, Now, NowFlush, Base, shown-transmit, shown-receive}
+use Rattle.agreement.proofs.EndFacts.{pushed, core-send, base-send, commanded, core-command, base-command}
+use Rattle.agreement.proofs.EndFacts.{core-receive, base-receive}
 
 -- steps of one end alone, never busy
 unfoldable pub steps : Job → ℕ → End → End
@@ -43,7 +45,7 @@ steps j (suc i) x = steps j i (stepped j false x)
 -- after c clocks
 pub data Settled (n c : ℕ) (x : End) : Type 0 where
   over : OkTwice (seen x) → Settled n c x
-  waits : c < n → length (x .wire .receive) ≡ 0 → 0 < length (x .wire .transmit) → Settled n c x
+  waits : c < n → length (x .wire .receive) ≡ 0 → 0 < length (wordsIn (x .wire .transmit)) → Settled n c x
 
 pub record Leads (n c : ℕ) (j : Job) (x : End) : Type 0 where
   pub count : ℕ
@@ -55,6 +57,11 @@ calm-flag false flags f h = refl
 
 refused : {a : Bool} → a ≡ true → a ≡ false → ⊥
 refused h h′ = let z : _≡_ {A = ℕ} 0 1 = cc in omega arith
+
+-- a command that is queued waits for the first word: with all words sent and gone there is none
+no-command : (places words sent : ℕ) {n : ℕ} → (words < places → (sent ≡ words) × (0 < n)) → words ≡ 0 → n ≤ sent → places ≡ 0
+no-command zero words sent h e l = refl
+no-command (suc k) words sent h e l = let z = h (omega arith) in absurd (omega (arith, z .0, z .1))
 
 module _ (n : ℕ) (accepts : Bool) (j : Job) (other : ℕ → ℕ) (small-e : j .exponent ≤ 4) (keeps : Keeps j) (c m : ℕ) (τ : Tally)
     (calm : τ .flags ≡ 0) where
@@ -117,9 +124,13 @@ module _ (n : ℕ) (accepts : Bool) (j : Job) (other : ℕ → ℕ) (small-e : j
         ))
         l
 
-    go-command : L (end (at (sendTurn k) k q) FlushStatus rs w (registersAfter (j .words rs) (Write TCR (k .command)) g)) → L (on Command)
+    go-command : length (w .transmit) ≡ 0
+        → L
+        (end (at (sendTurn k) k q) FlushStatus rs (commanded n accepts j other small-e keeps c m τ w)
+        (registersAfter (j .words rs) (Write TCR (k .command)) g))
+        → L (on Command)
     unfolding stepped dueAccess resumed
-    go-command l = step-to refl l
+    go-command h l = step-to (rw (lt-leb (2 ^ j .exponent) (length (w .transmit)) (omega (arith, h, below-capacity (j .exponent))))) l
 
     go-sending-status : L (on (Sending Sizes)) → L (on (Sending Status))
     unfolding stepped dueAccess resumed
@@ -208,7 +219,9 @@ module _ (n : ℕ) (accepts : Bool) (j : Job) (other : ℕ → ℕ) (small-e : j
     flush-counts : Cr k rs w → k .sent ≡ n → length rs ≡ n → L (flushing FlushCounts)
     unfolding dueAccess
     flush-counts x hs hr =
-        go-flush-counts (omega (arith, x .inEq, x .outEq, B .small, B .madeLe, calm))
+        go-flush-counts
+        (no-command (length (w .transmit)) (length (wordsIn (w .transmit))) (k .sent) (x .unsent)
+        (omega (arith, x .inEq, x .outEq, B .small, B .madeLe, calm)) (omega arith))
         (here (flushing (Flushed Ok)) (over (refl, refl)))
 
     flush-status : Cr k rs w → k .sent ≡ n → length rs ≡ n → L (flushing FlushStatus)
@@ -251,32 +264,32 @@ module _ (n : ℕ) (accepts : Bool) (j : Job) (other : ℕ → ℕ) (small-e : j
             flush-status x (omega (arith, ltb-false (k .sent) (k .send) h, x .toSend, x .most))
             (omega (arith, ltb-false (k .received) (k .receive) h′, x .taken, x .toReceive, x .inEq, B .small))
 
-    -- nothing to take, nothing queued: one word is sent, and waits
-    kick : 0 < j .exponent → length (w .receive) ≡ 0 → length (w .transmit) ≡ 0 → c < n → L (on (Sending Status))
+    -- nothing to take, no word queued: one is sent, and waits
+    kick : 1 < j .exponent → length (w .receive) ≡ 0 → length (w .transmit) ≤ 1 → c < n → L (on (Sending Status))
     kick pos hr ht l =
         go-sending-status
         (go-sending-sizes
         (go-sending-ready param (omega (arith, param-is))
         (go-send (omega arith)
         (here (end (at (sendTurn (oneSent k)) (oneSent k) q) FlushStatus rs (pushed n accepts j other small-e keeps c m τ rs k w) g)
-        (waits l hr (omega (arith, length-snoc (w .transmit) (j .words rs (k .sent)))))))))
+        (waits l hr (omega (arith, more-words (w .transmit) (j .words rs (k .sent)))))))))
 
-    receiving-counts : (v : ℕ) → 0 < j .exponent → Cr k rs w → length rs < n → (0 < length (w .receive) → L (on Receive))
+    receiving-counts : (v : ℕ) → 1 < j .exponent → Cr k rs w → length rs < n → (0 < length (w .receive) → L (on Receive))
         → L (on (Receiving (Counts v)))
-    receiving-counts v pos x l go = by-tests (ltb 0 (length (w .receive))) (ltb 0 (length (w .transmit))) refl refl
+    receiving-counts v pos x l go = by-tests (ltb 0 (length (w .receive))) (ltb 0 (length (wordsIn (w .transmit)))) refl refl
       where
-        by-tests : (y z : Bool) → ltb 0 (length (w .receive)) ≡ y → ltb 0 (length (w .transmit)) ≡ z → L (on (Receiving (Counts v)))
+        by-tests : (y z : Bool) → ltb 0 (length (w .receive)) ≡ y → ltb 0 (length (wordsIn (w .transmit))) ≡ z → L (on (Receiving (Counts v)))
         by-tests true z h h′ = let a = ltb-true 0 (length (w .receive)) h in go-receiving-ready v a (go a)
         by-tests false true h h′ =
             here (on (Receiving (Counts v)))
             (waits (omega (arith, ltb-false 0 (length (w .receive)) h, x .inEq, B .lostLe, calm))
-            (omega (arith, ltb-false 0 (length (w .receive)) h)) (ltb-true 0 (length (w .transmit)) h′))
+            (omega (arith, ltb-false 0 (length (w .receive)) h)) (ltb-true 0 (length (wordsIn (w .transmit))) h′))
         by-tests false false h h′ =
             let a : length (w .receive) ≡ 0 = omega (arith, ltb-false 0 (length (w .receive)) h) in
-            let b : length (w .transmit) ≡ 0 = omega (arith, ltb-false 0 (length (w .transmit)) h′) in
+            let b : length (wordsIn (w .transmit)) ≡ 0 = omega (arith, ltb-false 0 (length (wordsIn (w .transmit))) h′) in
             let l′ : c < n = omega (arith, x .inEq, B .lostLe, calm) in
             let e : sendTurn k ≡ Sending Status = rw (lt-ltb (k .sent) (k .send) (omega (arith, x .toSend, x .outEq, B .madeLe, calm))) in
-            go-receiving-unready v a (subst (λ (p : Stage). L (on p)) (sym e) (kick pos a b l′))
+            go-receiving-unready v a (subst (λ (p : Stage). L (on p)) (sym e) (kick pos a (omega (arith, b, one-command (w .transmit) (x .first))) l′))
 
     sending-counts : (v : ℕ) → Cr k rs w → readField (Param TXFIFO) v ≡ j .exponent
         → (length (w .transmit) < j .exponent → L (on Send)) → (length rs < n → L (on (Receiving Status)))
@@ -288,7 +301,7 @@ module _ (n : ℕ) (accepts : Bool) (j : Job) (other : ℕ → ℕ) (small-e : j
             let a = ltb-true (length (w .transmit)) (readField (Param TXFIFO) v) h in go-sending-ready v a (go (omega (arith, e)))
         by-test false h = go-sending-unready v (ltb-false (length (w .transmit)) (readField (Param TXFIFO) v) h) (turn-receive x go′)
 
-  module _ (pos : 0 < j .exponent) where
+  module _ (pos : 1 < j .exponent) where
     abbrev run-on : Work → Sequence → List ℕ → Wire → List ℕ → Stage → End
     run-on k q rs w g p = end (at p k q) FlushStatus rs w g
 
@@ -330,54 +343,63 @@ module _ (n : ℕ) (accepts : Bool) (j : Job) (other : ℕ → ℕ) (small-e : j
 
     -- a word goes, and its sender has the turn again
     sent-then : (k : Work) (q : Sequence) (rs : List ℕ) (w : Wire) (g : List ℕ) → Bs w → Cr k rs w → k .sent < n
-        → length (w .transmit) < j .exponent
+        → length (w .transmit) < j .exponent → Begun k w
         → (counted (k .sent) (k .send) < n → Bs (pushed n accepts j other small-e keeps c m τ rs k w)
         → Cr (oneSent k) rs (pushed n accepts j other small-e keeps c m τ rs k w)
         → L (run-on (oneSent k) q rs (pushed n accepts j other small-e keeps c m τ rs k w) g (Sending Status)))
         → L (run-on k q rs w g Send)
-    sent-then k q rs w g B x l h go =
+    sent-then k q rs w g B x l h b go =
         let w′ = pushed n accepts j other small-e keeps c m τ rs k w in
         let B′ = base-send n accepts j other small-e keeps c m τ k rs w x l h B in
-        let x′ = core-send n accepts j other small-e keeps c m τ k rs w x l in
+        let x′ = core-send n accepts j other small-e keeps c m τ k rs w x l h b in
         go-send k q rs w g B h
         (turn-send (oneSent k) q rs w′ g B′ x′ (λ l′. go l′ B′ x′) (λ l′. receiving-any (oneSent k) q rs w′ g B′ x′ l′))
 
     -- from the sending side's poll, with at most i words to send
     sending : (i : ℕ) (k : Work) (q : Sequence) (rs : List ℕ) (w : Wire) (g : List ℕ) → n ≤ k .sent + i → Bs w → Cr k rs w
-        → k .sent < n → L (run-on k q rs w g (Sending Status))
-    sending zero k q rs w g z B x l = absurd (omega arith)
-    sending (suc i) k q rs w g z B x l =
+        → k .sent < n → Begun k w → L (run-on k q rs w g (Sending Status))
+    sending zero k q rs w g z B x l b = absurd (omega arith)
+    sending (suc i) k q rs w g z B x l b =
         let up : counted (k .sent) (k .send) ≡ k .sent + 1 = counted-up (k .sent) (k .send) (omega (arith, x .toSend)) in
         go-sending-status k q rs w g B
         (go-sending-sizes k q rs w g B
         (sending-counts k q rs w g B (param k q rs w g B) x (param-is k q rs w g B)
         (λ h.
-        sent-then k q rs w g B x l h
+        sent-then k q rs w g B x l h b
         (λ l′ B′ x′.
-        sending i (oneSent k) q rs (pushed n accepts j other small-e keeps c m τ rs k w) g (omega (arith, up)) B′ x′ l′))
+        sending i (oneSent k) q rs (pushed n accepts j other small-e keeps c m τ rs k w) g (omega (arith, up)) B′ x′ l′
+        (λ z′. absurd (omega (arith, up, z′)))))
         (λ h. receiving-any k q rs w g B x h)))
 
-    sending-any : (k : Work) (q : Sequence) (rs : List ℕ) (w : Wire) (g : List ℕ) → Bs w → Cr k rs w → k .sent < n
+    sending-any : (k : Work) (q : Sequence) (rs : List ℕ) (w : Wire) (g : List ℕ) → Bs w → Cr k rs w → k .sent < n → Begun k w
         → L (run-on k q rs w g (Sending Status))
-    sending-any k q rs w g B x l = sending n k q rs w g (omega arith) B x l
+    sending-any k q rs w g B x l b = sending n k q rs w g (omega arith) B x l b
 
     sent : (k : Work) (q : Sequence) (rs : List ℕ) (w : Wire) (g : List ℕ) → Bs w → Cr k rs w → k .sent < n
-        → length (w .transmit) < j .exponent → L (run-on k q rs w g Send)
-    sent k q rs w g B x l h =
-        sent-then k q rs w g B x l h
-        (λ l′ B′ x′. sending-any (oneSent k) q rs (pushed n accepts j other small-e keeps c m τ rs k w) g B′ x′ l′)
+        → length (w .transmit) < j .exponent → Begun k w → L (run-on k q rs w g Send)
+    sent k q rs w g B x l h b =
+        let up : counted (k .sent) (k .send) ≡ k .sent + 1 = counted-up (k .sent) (k .send) (omega (arith, x .toSend)) in
+        sent-then k q rs w g B x l h b
+        (λ l′ B′ x′.
+        sending-any (oneSent k) q rs (pushed n accepts j other small-e keeps c m τ rs k w) g B′ x′ l′ (λ z. absurd (omega (arith, up, z))))
 
     sending-asked : (v : ℕ) (k : Work) (q : Sequence) (rs : List ℕ) (w : Wire) (g : List ℕ)
-        → readField (Param TXFIFO) v ≡ j .exponent → Bs w → Cr k rs w → k .sent < n
+        → readField (Param TXFIFO) v ≡ j .exponent → Bs w → Cr k rs w → k .sent < n → Begun k w
         → L (run-on k q rs w g (Sending (Counts v)))
-    sending-asked v k q rs w g e B x l =
-        sending-counts k q rs w g B v x e (λ h. sent k q rs w g B x l h) (λ h. receiving-any k q rs w g B x h)
+    sending-asked v k q rs w g e B x l b =
+        sending-counts k q rs w g B v x e (λ h. sent k q rs w g B x l h b) (λ h. receiving-any k q rs w g B x h)
 
-    commanded : (k : Work) (q : Sequence) (rs : List ℕ) (w : Wire) (g : List ℕ) → Bs w → Cr k rs w → k .sent < n
+    command-then : (k : Work) (q : Sequence) (rs : List ℕ) (w : Wire) (g : List ℕ) → Bs w → Cr k rs w → k .sent < n
+        → k .sent ≡ 0 → length (w .transmit) ≡ 0
         → L (run-on k q rs w g Command)
-    commanded k q rs w g B x l =
+    command-then k q rs w g B x l z h =
         let g′ = registersAfter (j .words rs) (Write TCR (k .command)) g in
-        go-command k q rs w g B (turn-send k q rs w g′ B x (λ l′. sending-any k q rs w g′ B x l′) (λ l′. receiving-any k q rs w g′ B x l′))
+        let w′ = commanded n accepts j other small-e keeps c m τ w in
+        let B′ = base-command n accepts j other small-e keeps c m τ w h B in
+        let x′ = core-command n accepts j other small-e keeps c m τ k rs w x l z h in
+        go-command k q rs w g B h
+        (turn-send k q rs w′ g′ B′ x′ (λ l′. sending-any k q rs w′ g′ B′ x′ l′ (λ y. omega (arith, length-snoc (w .transmit) aCommand)))
+        (λ l′. receiving-any k q rs w′ g′ B′ x′ l′))
 
     flush-leads : (f : Flush) (k : Work) (q : Sequence) (rs : List ℕ) (w : Wire) (g : List ℕ) → Bs w
         → NowFlush n accepts j other f c c m τ k rs w → L (end (at (Ended Ok) k q) f rs w g)
@@ -400,19 +422,19 @@ module _ (n : ℕ) (accepts : Bool) (j : Job) (other : ℕ → ℕ) (small-e : j
         go-space-status k q rs w g B
         (go-space-sizes k q rs w g B
         (go-space-counts k q rs w g B (param k q rs w g B)
-        (omega (arith, param-is k q rs w g B, N .0 .outEq, N .4, B .madeLe, calm)) (commanded k q rs w g B (N .0) (N .3))))
+        (omega (arith, param-is k q rs w g B, N .5)) (command-then k q rs w g B (N .0) (N .3) (N .4) (N .5))))
     phase-leads a (Space Sizes) k q rs w g B N =
         go-space-sizes k q rs w g B
         (go-space-counts k q rs w g B (param k q rs w g B)
-        (omega (arith, param-is k q rs w g B, N .0 .outEq, N .4, B .madeLe, calm)) (commanded k q rs w g B (N .0) (N .3)))
+        (omega (arith, param-is k q rs w g B, N .5)) (command-then k q rs w g B (N .0) (N .3) (N .4) (N .5)))
     phase-leads a (Space (Counts v)) k q rs w g B N =
-        go-space-counts k q rs w g B v (omega (arith, N .2, N .0 .outEq, N .4, B .madeLe, calm)) (commanded k q rs w g B (N .0) (N .3))
-    phase-leads a Command k q rs w g B N = commanded k q rs w g B (N .0) (N .2)
-    phase-leads a (Sending Status) k q rs w g B N = sending-any k q rs w g B (N .0) (N .3)
+        go-space-counts k q rs w g B v (omega (arith, N .2, N .5)) (command-then k q rs w g B (N .0) (N .3) (N .4) (N .5))
+    phase-leads a Command k q rs w g B N = command-then k q rs w g B (N .0) (N .2) (N .3) (N .4)
+    phase-leads a (Sending Status) k q rs w g B N = sending-any k q rs w g B (N .0) (N .3) (N .4)
     phase-leads a (Sending Sizes) k q rs w g B N =
-        go-sending-sizes k q rs w g B (sending-asked (param k q rs w g B) k q rs w g (param-is k q rs w g B) B (N .0) (N .3))
-    phase-leads a (Sending (Counts v)) k q rs w g B N = sending-asked v k q rs w g (N .2) B (N .0) (N .3)
-    phase-leads a Send k q rs w g B N = sent k q rs w g B (N .0) (N .2) (N .3)
+        go-sending-sizes k q rs w g B (sending-asked (param k q rs w g B) k q rs w g (param-is k q rs w g B) B (N .0) (N .3) (N .4))
+    phase-leads a (Sending (Counts v)) k q rs w g B N = sending-asked v k q rs w g (N .2) B (N .0) (N .3) (N .4)
+    phase-leads a Send k q rs w g B N = sent k q rs w g B (N .0) (N .2) (N .3) (N .4)
     phase-leads a (Receiving Status) k q rs w g B N = receiving-any k q rs w g B (N .0) (N .2)
     phase-leads a (Receiving Sizes) k q rs w g B N =
         go-receiving-sizes k q rs w g B

@@ -72,7 +72,7 @@ module _ (e : ℕ) (busy : Bool) (w : Wire) where
   shows-exponent held h =
       let l : e < 2 ^ 8 = omega arith in read-all (Param TXFIFO) ((Param RXFIFO, e) ∷ (Param TXFIFO, e) ∷ []) 0 tt ∙ mod-eq-of-lt l
 
-  -- FSR counts the queues, of at most 16 words each
+  -- FSR counts the queues, of at most 16 places each
   pub shows-transmit : (held : ℕ) → length (w .transmit) ≤ 16
       → readField (Fsr TXCOUNT) (showsBy e busy w counts held) ≡ length (w .transmit)
   shows-transmit held h =

@@ -123,6 +123,7 @@ good-fresh s n accepts other m en ea = by-tests (eqb (total s) 0) (frameAccepted
             tt,
             l,
             refl,
+            refl,
           );
         }
     by-tests false false e h = record { base = fresh-base n accepts (job s) other; now = sym h }

@@ -3,17 +3,18 @@
 use Prim.Native.Nat.{ℕ, suc, _+_, _^_, _<_, _≤_}
 use mathlib.Core.Bool.{Bool, true, false, cond}
 use mathlib.Core.List.{List, [], _∷_, _++_}
-use mathlib.Core.Path.{_≡_, refl, ap, _∙_, subst}
+use mathlib.Core.Path.{_≡_, refl, ap, sym, _∙_, subst}
 use native.Mathlib.Omega.{arith}
 use lib.ListN.{length}
 use borrow.Author.Tests.{leb-false}
 use Rattle.words.specs.declared.transaction.Direction.{Direction}
 use Rattle.words.specs.declared.transaction.Direction.the-variants.{Tx, Rx}
 use Rattle.agreement.specs.Start.{Job}
-use Rattle.agreement.specs.End.{Wire, queues, raised, full, arrived, End, end}
+use Rattle.agreement.specs.End.{Item, Wire, queues, raised, full, wordsIn, pastWord, wordGone, arrived, End, end}
 use Rattle.agreement.specs.Events.{rewired}
 use Rattle.agreement.specs.Tally.{Tally, noted}
 use Rattle.agreement.proofs.WordLists.{from, length-snoc, snoc-is, uncons}
+use Rattle.agreement.proofs.QueueLaws.{words-most, past-words, past-less, past-front, only-words}
 use Rattle.agreement.proofs.EndFacts.{own, Core, Now, Base, Good, now-stays}
 
 module _ (n : ℕ) (accepts : Bool) (j : Job) (other : ℕ → ℕ) (c m : ℕ) (τ : Tally) (x : End) where
@@ -30,6 +31,7 @@ module _ (n : ℕ) (accepts : Bool) (j : Job) (other : ℕ → ℕ) (c m : ℕ) 
     capR = B .capR;
     room = omega (arith, B .room, e);
     txIs = λ h. B .txIs (omega (arith, h, e));
+    made = omega (arith, B .made, e);
     lostLe = l;
     madeLe = omega (arith, B .madeLe, e);
     setT = λ h. b;
@@ -41,6 +43,7 @@ module _ (n : ℕ) (accepts : Bool) (j : Job) (other : ℕ → ℕ) (c m : ℕ) 
     capR = B .capR;
     room = omega (arith, B .room, e);
     txIs = λ h. B .txIs (omega (arith, h, e));
+    made = omega (arith, B .made, e);
     lostLe = l;
     madeLe = omega (arith, B .madeLe, e);
     setT = λ h. b;
@@ -65,12 +68,16 @@ module _ (n : ℕ) (accepts : Bool) (j : Job) (other : ℕ → ℕ) (c m : ℕ) 
             toReceive = k .toReceive;
             taken = k .taken;
             inEq = omega (arith, k .inEq, ap length er);
-            outEq = omega (arith, k .outEq, ap length et);
+            outEq = omega (arith, k .outEq, ap (λ (q : List Item). length (wordsIn q)) et);
             most = k .most;
+            first = rw et (k .first);
+            unsent = rw et (k .unsent);
+            shallow = k .shallow;
             rxIs = λ h h′. subst (λ (l : List ℕ). l ≡ from other (length (x .received)) (length l)) (er⁻¹) (k .rxIs h h′);
             gotIs = k .gotIs;
           })
-          (omega (arith, ap length et)) (omega (arith, ap length er)) (omega arith) (g .now)
+          (λ k b z. let l = b z in omega (arith, l, ap length et)) (omega (arith, ap length et)) (omega (arith, ap length er))
+          (omega arith) (g .now)
         where
           er⁻¹ : x .wire .receive ≡ w′ .receive
           er⁻¹ = cc
@@ -81,19 +88,24 @@ module _ (n : ℕ) (accepts : Bool) (j : Job) (other : ℕ → ℕ) (c m : ℕ) 
       by-direction Tx = same (raised Tx (x .wire)) refl refl
       by-direction Rx = same (raised Rx (x .wire)) refl refl
 
-  -- THE FIRST WORD of the transmit queue goes
-  pub good-sent : (v : ℕ) (queue : List ℕ) → x .wire .transmit ≡ v ∷ queue → c < n → G c c m τ x
-      → G (suc c) c m τ (rewired (λ w. queues queue (w .receive) w) x)
-  good-sent v queue e l g =
+  -- THE FIRST WORD of the transmit queue goes, and the command before it
+  pub good-sent : (v : ℕ) (words : List ℕ) → wordsIn (x .wire .transmit) ≡ v ∷ words → c < n → G c c m τ x
+      → G (suc c) c m τ (rewired wordGone x)
+  good-sent v words e l g =
       let B = g .base in
-      let z : length (x .wire .transmit) ≡ suc (length queue) = ap length e in
+      let q = x .wire .transmit in
+      let z : length (wordsIn q) ≡ suc (length words) = ap length e in
+      let left : wordsIn (pastWord q) ≡ words = past-words q v words e in
+      let fewer = past-less q in
       record {
         base = record {
           small = l;
-          capT = omega (arith, B .capT);
+          capT = omega (arith, B .capT, fewer);
           capR = B .capR;
-          room = omega (arith, B .room);
-          txIs = λ h. uncons (own j) c v queue (subst (λ (q : List ℕ). q ≡ from (own j) c (length q)) e (B .txIs h)) .1;
+          room = omega (arith, B .room, z, ap length left);
+          txIs = λ h.
+              rw left (uncons (own j) c v words (subst (λ (q : List ℕ). q ≡ from (own j) c (length q)) e (B .txIs h)) .1);
+          made = omega (arith, B .made);
           lostLe = B .lostLe;
           madeLe = B .madeLe;
           setT = B .setT;
@@ -107,19 +119,23 @@ module _ (n : ℕ) (accepts : Bool) (j : Job) (other : ℕ → ℕ) (c m : ℕ) 
               toReceive = k .toReceive;
               taken = k .taken;
               inEq = k .inEq;
-              outEq = omega (arith, k .outEq);
+              outEq = omega (arith, k .outEq, z, ap length left);
               most = k .most;
+              first = only-words (pastWord q) (ap length left ∙ sym (past-front q v words (k .first) e));
+              unsent = λ h. absurd (omega (arith, h, ap length left, past-front q v words (k .first) e));
+              shallow = k .shallow;
               rxIs = k .rxIs;
               gotIs = k .gotIs;
             })
-            (omega arith) (omega arith) (omega arith) (g .now);
+            (λ k b h. absurd (omega (arith, h, k .outEq, z, B .made))) fewer (omega arith) (omega arith) (g .now);
       }
 
-  -- THERE IS NONE: one is made up
-  pub good-made-up : x .wire .transmit ≡ [] → c < n → G c c m τ x → G (suc c) c m (noted false true false τ) (rewired (raised Tx) x)
+  -- THERE IS NONE: one is made up; a command stays
+  pub good-made-up : wordsIn (x .wire .transmit) ≡ [] → c < n → G c c m τ x
+      → G (suc c) c m (noted false true false τ) (rewired (raised Tx) x)
   good-made-up e l g =
       let B = g .base in
-      let z : length (x .wire .transmit) ≡ 0 = ap length e in
+      let z : length (wordsIn (x .wire .transmit)) ≡ 0 = ap length e in
       record {
         base = record {
           small = l;
@@ -127,6 +143,7 @@ module _ (n : ℕ) (accepts : Bool) (j : Job) (other : ℕ → ℕ) (c m : ℕ) 
           capR = B .capR;
           room = omega (arith, B .room);
           txIs = λ h. absurd (omega (arith, h));
+          made = omega (arith, B .made);
           lostLe = omega (arith, B .lostLe);
           madeLe = omega (arith, B .madeLe);
           setT = λ h. omega arith;
@@ -142,10 +159,13 @@ module _ (n : ℕ) (accepts : Bool) (j : Job) (other : ℕ → ℕ) (c m : ℕ) 
               inEq = k .inEq;
               outEq = omega (arith, k .outEq);
               most = k .most;
+              first = k .first;
+              unsent = k .unsent;
+              shallow = k .shallow;
               rxIs = k .rxIs;
               gotIs = k .gotIs;
             })
-            (omega arith) (omega arith) (omega arith) (g .now);
+            (λ k b. b) (omega arith) (omega arith) (omega arith) (g .now);
       }
 
   -- A WORD ARRIVES, or is lost
@@ -164,6 +184,7 @@ module _ (n : ℕ) (accepts : Bool) (j : Job) (other : ℕ → ℕ) (c m : ℕ) 
           capR = B .capR;
           room = B .room;
           txIs = B .txIs;
+          made = B .made;
           lostLe = omega (arith, B .lostLe);
           madeLe = omega (arith, B .madeLe);
           setT = λ h. omega arith;
@@ -179,10 +200,13 @@ module _ (n : ℕ) (accepts : Bool) (j : Job) (other : ℕ → ℕ) (c m : ℕ) 
               inEq = omega (arith, k .inEq);
               outEq = k .outEq;
               most = k .most;
+              first = k .first;
+              unsent = k .unsent;
+              shallow = k .shallow;
               rxIs = λ o. absurd (omega (arith, o));
               gotIs = λ o. absurd (omega (arith, o));
             })
-            (omega arith) (omega arith) (omega arith) (g .now);
+            (λ k b. b) (omega arith) (omega arith) (omega arith) (g .now);
       }
       by-room false e =
           let B = g .base in
@@ -194,6 +218,7 @@ module _ (n : ℕ) (accepts : Bool) (j : Job) (other : ℕ → ℕ) (c m : ℕ) 
               capR = omega (arith, z, leb-false (2 ^ j .exponent) (length (x .wire .receive)) e);
               room = B .room;
               txIs = B .txIs;
+              made = B .made;
               lostLe = B .lostLe;
               madeLe = B .madeLe;
               setT = B .setT;
@@ -209,10 +234,13 @@ module _ (n : ℕ) (accepts : Bool) (j : Job) (other : ℕ → ℕ) (c m : ℕ) 
                   inEq = omega (arith, k .inEq, z);
                   outEq = k .outEq;
                   most = k .most;
+                  first = k .first;
+                  unsent = k .unsent;
+                  shallow = k .shallow;
                   rxIs = λ o o′.
                       snoc-is other (length (x .received)) (x .wire .receive) v (k .rxIs o (omega (arith, o′)))
                       (h o′ ∙ ap other (let i : c ≡ length (x .received) + length (x .wire .receive) = omega (arith, k .inEq, o) in i));
                   gotIs = λ o o′. k .gotIs o (omega (arith, o′));
                 })
-                (omega arith) (omega (arith, z)) (omega arith) (g .now);
+                (λ k b. b) (omega arith) (omega (arith, z)) (omega arith) (g .now);
           }

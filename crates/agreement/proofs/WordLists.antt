@@ -19,7 +19,7 @@ from-snoc : (f : ℕ → ℕ) (a k : ℕ) → from f a k ++ f (a + k) ∷ [] ≡
 from-snoc f a zero = rw add-zero
 from-snoc f a (suc k) = ap (λ (l : List ℕ). f a ∷ l) (rw (add-suc, ← suc-add) (from-snoc f (suc a) k))
 
-pub length-snoc : (q : List ℕ) (v : ℕ) → length (q ++ v ∷ []) ≡ suc (length q)
+pub length-snoc : {A : Type 0} (q : List A) (v : A) → length (q ++ v ∷ []) ≡ suc (length q)
 length-snoc q v = simp length-append (omega arith)
 
 pub snoc-is : (f : ℕ → ℕ) (a : ℕ) (q : List ℕ) (v : ℕ) → q ≡ from f a (length q) → v ≡ f (a + length q)
@@ -46,7 +46,7 @@ pub length-behind : (q : List ℕ) → length (behind q) ≡ length q - 1
 length-behind [] = refl
 length-behind (v ∷ q) = omega arith
 
-pub emptied-less : (b : Bool) (q : List ℕ) → length (emptiedIf b q) ≤ length q
+pub emptied-less : {A : Type 0} (b : Bool) (q : List A) → length (emptiedIf b q) ≤ length q
 emptied-less true q = omega arith
 emptied-less false q = omega arith
 
@@ -54,7 +54,7 @@ pub emptied-is : (b : Bool) (q : List ℕ) (f : ℕ → ℕ) (a : ℕ) → q ≡
 emptied-is true q f a h = refl
 emptied-is false q f a h = h
 
-pub nil-of : (q : List ℕ) → length q ≡ 0 → q ≡ []
+pub nil-of : {A : Type 0} (q : List A) → length q ≡ 0 → q ≡ []
 nil-of [] h = refl
 nil-of (v ∷ q) h = absurd (omega arith)
 

@@ -44,7 +44,7 @@ bufferOf s x = laid (unpackWords (s .board .driver .order) (elementBits s) (tota
 abbrev pub Holds : Start → Start → List ℕ → Type 0
 Holds mine theirs buffer = (i : ℕ) → i < length (mine .read) → getD buffer i 0 ≡ getD (started theirs) i (dummy (elementBits mine))
 
--- both queues of an end are empty
+-- both queues of an end are empty: no word, and no command
 pub record Emptied (x : Seen) : Type 0 where
   pub transmit : x .wire .transmit ≡ []
   pub receive : x .wire .receive ≡ []
@@ -73,7 +73,7 @@ pub record Agreement (g a : Start) (events : List Event) (gate antenna : Seen) (
   -- (b) an end whose flag a lost or a made-up word set, anywhere in the list, has not had Ok twice
   pub gateTells : 0 < tally Gate g a events .lost + tally Gate g a events .madeUp → OkTwice gate → ⊥
   pub antennaTells : 0 < tally Antenna g a events .lost + tally Antenna g a events .madeUp → OkTwice antenna → ⊥
-  -- (c) no event set a flag, the frame size is accepted, both FIFOs hold more than one word: both can still get there
+  -- (c) no event set a flag, the frame size is accepted, both FIFOs hold more than two words: both can still get there
   pub finishes : tally Gate g a events .flags + tally Antenna g a events .flags ≡ 0 → accepted g ≡ true
-      → 1 < 2 ^ (g .board .exponent) → 1 < 2 ^ (a .board .exponent)
+      → 2 < 2 ^ (g .board .exponent) → 2 < 2 ^ (a .board .exponent)
       → Finish g a events

@@ -27,21 +27,26 @@ use Rattle.machine.specs.Transfer.{dueAccess, resumed}
 use Rattle.runs.specs.Run.{ended, answerOf, receivedAfter}
 use Rattle.agreement.specs.declared.register.Role.{Role}
 use Rattle.agreement.specs.declared.register.Role.the-variants.{Sizes as sizes, Status as status, Counts as counts}
-use Rattle.agreement.specs.declared.register.Role.the-variants.{Control as control, Sends as sends}
+use Rattle.agreement.specs.declared.register.Role.the-variants.{Control as control, Commands as commands, Sends as sends}
 use Rattle.agreement.specs.declared.register.Role.the-variants.{Receives as receives, Holds as holds}
 use Rattle.agreement.specs.Start.{Start, Job, transferOf}
 
 -- QUEUES AND FLAGS
 
--- "transmit and receive queues of 2^e words, flags T and R": the first word of a queue stands first
+-- what takes a place of a transmit queue: "TCR writes pass through the transmit FIFO" (document 02, No. 2)
+pub data Item : Type 0 where
+  Command : Item
+  Word : ℕ → Item
+
+-- "transmit and receive queues of 2^e words, flags T and R": what is first in a queue stands first
 pub record Wire : Type 0 where
-  pub transmit : List ℕ
+  pub transmit : List Item
   pub receive : List ℕ
   pub t : Bool
   pub r : Bool
 
 -- other queues, the flags kept
-abbrev pub queues : List ℕ → List ℕ → Wire → Wire
+abbrev pub queues : List Item → List ℕ → Wire → Wire
 queues transmit receive w = record { transmit = transmit; receive = receive; t = w .t; r = w .r }
 
 -- an event sets T or R
@@ -53,13 +58,29 @@ raised Rx w = record { transmit = w .transmit; receive = w .receive; t = w .t; r
 abbrev pub lowered : Bool → Bool → Wire → Wire
 lowered t r w = record { transmit = w .transmit; receive = w .receive; t = cond t false (w .t); r = cond r false (w .r) }
 
--- queues of 2^e words
-abbrev pub full : ℕ → List ℕ → Bool
+-- queues of 2^e words; a command takes the place of one
+abbrev pub full : {A : Type 0} → ℕ → List A → Bool
 full e queue = leb (2 ^ e) (length queue)
 
--- TDR appends; onto a full queue: lost, T set
-abbrev pub sentInto : ℕ → ℕ → Wire → Wire
-sentInto e v w = cond (full e (w .transmit)) (raised Tx w) (queues (w .transmit ++ (v ∷ [])) (w .receive) w)
+-- TDR and TCR append; onto a full queue: lost, T set (a command never is: `Demand3.gate-command-first`)
+abbrev pub sentInto : ℕ → Item → Wire → Wire
+sentInto e x w = cond (full e (w .transmit)) (raised Tx w) (queues (w .transmit ++ (x ∷ [])) (w .receive) w)
+
+-- the words of a transmit queue: "an end whose queue holds only a command has no word to send"
+abbrev pub wordsIn : List Item → List ℕ
+wordsIn [] = []
+wordsIn (Command ∷ queue) = wordsIn queue
+wordsIn (Word v ∷ queue) = v ∷ wordsIn queue
+
+-- what is left once its first word has left: a command "leaves with the next word behind it"
+abbrev pub pastWord : List Item → List Item
+pastWord [] = []
+pastWord (Command ∷ queue) = pastWord queue
+pastWord (Word v ∷ queue) = queue
+
+-- that, of an end
+abbrev pub wordGone : Wire → Wire
+wordGone w = queues (pastWord (w .transmit)) (w .receive) w
 
 -- a word arriving at a full queue is lost and sets that end's R
 abbrev pub arrived : ℕ → ℕ → Wire → Wire
@@ -70,13 +91,13 @@ abbrev pub front : List ℕ → ℕ
 front [] = 0
 front (v ∷ queue) = v
 
--- the words behind the first
-abbrev pub behind : List ℕ → List ℕ
+-- what stands behind the first
+abbrev pub behind : {A : Type 0} → List A → List A
 behind [] = []
 behind (v ∷ queue) = queue
 
 -- "empty their queue", where the test says so
-abbrev pub emptiedIf : Bool → List ℕ → List ℕ
+abbrev pub emptiedIf : {A : Type 0} → Bool → List A → List A
 emptiedIf b queue = cond b [] queue
 
 -- REGISTERS
@@ -95,7 +116,7 @@ roleOf DMR1 = holds
 roleOf CCR = holds
 roleOf FCR = holds
 roleOf FSR = counts
-roleOf TCR = holds
+roleOf TCR = commands
 roleOf TDR = sends
 roleOf RSR = holds
 roleOf RDR = receives
@@ -104,12 +125,13 @@ roleOf RDR = receives
 abbrev pub placeOf : Register → ℕ
 placeOf r = offsetOf r / 4
 
--- what a read shows: both PARAM fields are the exponent; SR shows T, R, busy; FSR counts
+-- what a read shows: both PARAM fields are the exponent; SR shows T, R, busy; FSR counts, "a command now counts in TXCOUNT"
 abbrev pub showsBy : ℕ → Bool → Wire → Role → ℕ → ℕ
 showsBy e busy w sizes held = setAll ((Param RXFIFO, e) ∷ (Param TXFIFO, e) ∷ []) 0
 showsBy e busy w status held = setAll ((Sr TEF, flagOf (w .t)) ∷ (Sr REF, flagOf (w .r)) ∷ (Sr MBF, flagOf busy) ∷ []) 0
 showsBy e busy w counts held = setAll ((Fsr RXCOUNT, length (w .receive)) ∷ (Fsr TXCOUNT, length (w .transmit)) ∷ []) 0
 showsBy e busy w control held = held
+showsBy e busy w commands held = held
 showsBy e busy w sends held = held
 showsBy e busy w receives held = front (w .receive)
 showsBy e busy w holds held = held
@@ -124,6 +146,7 @@ readBy sizes w = w
 readBy status w = w
 readBy counts w = w
 readBy control w = w
+readBy commands w = w
 readBy sends w = w
 readBy receives w = queues (w .transmit) (behind (w .receive)) w
 readBy holds w = w
@@ -139,16 +162,18 @@ writtenBy e control v w =
     lowered reset reset
     (queues (emptiedIf (reset || eqb (readField (Cr RTF) v) 1) (w .transmit))
     (emptiedIf (reset || eqb (readField (Cr RRF) v) 1) (w .receive)) w)
-writtenBy e sends v w = sentInto e v w
+writtenBy e commands v w = sentInto e Command w
+writtenBy e sends v w = sentInto e (Word v) w
 writtenBy e receives v w = w
 writtenBy e holds v w = w
 
--- and to the registers: RTF and RRF read as 0
+-- and to the registers: RTF and RRF read as 0; "TCR is noted"
 abbrev pub heldBy : Role → ℕ → ℕ → List ℕ → List ℕ
 heldBy sizes place v registers = registers
 heldBy status place v registers = registers
 heldBy counts place v registers = registers
 heldBy control place v registers = set registers place (setAll ((Cr RTF, 0) ∷ (Cr RRF, 0) ∷ []) v)
+heldBy commands place v registers = set registers place v
 heldBy sends place v registers = registers
 heldBy receives place v registers = registers
 heldBy holds place v registers = set registers place v

@@ -8,7 +8,7 @@ use Rattle.agreement.specs.declared.event.Event.the-variants.{Step, Cloc
 use Rattle.agreement.specs.declared.event.Side.{Side}
 use Rattle.agreement.specs.declared.event.Side.the-variants.{Gate, Antenna}
 use Rattle.agreement.specs.Start.{Start, Job, job}
-use Rattle.agreement.specs.End.{Wire, queues, raised, arrived, End, end, freshEnd, stepped}
+use Rattle.agreement.specs.End.{Wire, raised, wordsIn, wordGone, arrived, End, end, freshEnd, stepped}
 
 -- two ends: the gate clocks, the antenna replies
 pub record Pair : Type 0 where
@@ -29,22 +29,22 @@ abbrev pub rewired : (Wire → Wire) → End → End
 rewired f x = end (x .transfer) (x .flush) (x .received) (f (x .wire)) (x .registers)
 
 module _ (g a : Job) where
-  -- Clock: nothing if the gate's transmit queue is empty. Else its first word goes to the antenna; the antenna's first, or a made-up 0
-  -- with the antenna's T set, goes to the gate. By the two transmit queues
+  -- Clock: nothing if the gate has no word to send. Else its first word goes to the antenna; the antenna's first, or a made-up 0 with the
+  -- antenna's T set, goes to the gate; an antenna whose queue holds only a command underruns, "the command staying". By the words queued
   unfoldable pub clockedBy : List ℕ → List ℕ → Pair → Pair
   clockedBy [] theirs p = p
   clockedBy (v ∷ ours) [] p =
-      pair (rewired (λ w. arrived (g .exponent) 0 (queues ours (w .receive) w)) (p .gate))
+      pair (rewired (λ w. arrived (g .exponent) 0 (wordGone w)) (p .gate))
       (rewired (λ w. arrived (a .exponent) v (raised Tx w)) (p .antenna))
   clockedBy (v ∷ ours) (u ∷ theirs) p =
-      pair (rewired (λ w. arrived (g .exponent) u (queues ours (w .receive) w)) (p .gate))
-      (rewired (λ w. arrived (a .exponent) v (queues theirs (w .receive) w)) (p .antenna))
+      pair (rewired (λ w. arrived (g .exponent) u (wordGone w)) (p .gate))
+      (rewired (λ w. arrived (a .exponent) v (wordGone w)) (p .antenna))
 
   -- ONE EVENT. Noise sets T or R at an end
   unfoldable pub happened : Pair → Event → Pair
   happened p (Step Gate busy) = pair (stepped g busy (p .gate)) (p .antenna)
   happened p (Step Antenna busy) = pair (p .gate) (stepped a busy (p .antenna))
-  happened p Clock = clockedBy (p .gate .wire .transmit) (p .antenna .wire .transmit) p
+  happened p Clock = clockedBy (wordsIn (p .gate .wire .transmit)) (wordsIn (p .antenna .wire .transmit)) p
   happened p (Noise Gate d) = pair (rewired (raised d) (p .gate)) (p .antenna)
   happened p (Noise Antenna d) = pair (p .gate) (rewired (raised d) (p .antenna))
 

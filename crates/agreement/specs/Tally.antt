@@ -13,10 +13,10 @@ use Rattle.agreement.specs.declared.event.Side.{Side}
 use Rattle.agreement.specs.declared.event.Side.the-variants.{Gate, Antenna}
 use Rattle.agreement.specs.declared.register.Role.{Role}
 use Rattle.agreement.specs.declared.register.Role.the-variants.{Sizes as sizes, Status as status, Counts as counts}
-use Rattle.agreement.specs.declared.register.Role.the-variants.{Control as control, Sends as sends}
+use Rattle.agreement.specs.declared.register.Role.the-variants.{Control as control, Commands as commands, Sends as sends}
 use Rattle.agreement.specs.declared.register.Role.the-variants.{Receives as receives, Holds as holds}
 use Rattle.agreement.specs.Start.{Start, Job, job}
-use Rattle.agreement.specs.End.{Wire, End, roleOf, full, endAccess}
+use Rattle.agreement.specs.End.{Wire, End, wordsIn, roleOf, full, endAccess}
 use Rattle.agreement.specs.Events.{Pair, happened, freshPair}
 
 -- words lost, words made up, and times that a flag was set
@@ -39,17 +39,18 @@ abbrev pub noted : Bool → Bool → Bool → Tally → Tally
 noted lost madeUp noise y =
     record { lost = up lost (y .lost); madeUp = up madeUp (y .madeUp); flags = up lost (up madeUp (up noise (y .flags))) }
 
--- a queue has a word to send
+-- there is a word to send
 abbrev pub waiting : List ℕ → Bool
 waiting [] = false
-waiting (v ∷ queue) = true
+waiting (v ∷ words) = true
 
--- a write to TDR onto a full queue
+-- a write to TDR, or to TCR, onto a full queue
 abbrev pub overrunBy : Role → ℕ → Wire → Bool
 overrunBy sizes e w = false
 overrunBy status e w = false
 overrunBy counts e w = false
 overrunBy control e w = false
+overrunBy commands e w = full e (w .transmit)
 overrunBy sends e w = full e (w .transmit)
 overrunBy receives e w = false
 overrunBy holds e w = false
@@ -72,7 +73,7 @@ module _ (g a : Job) where
   abbrev pub gateNotes : Pair → Event → Tally → Tally
   gateNotes p (Step Gate busy) y = noted (stepOverruns g (p .gate)) false false y
   gateNotes p (Step Antenna busy) y = y
-  gateNotes p Clock y = noted (waiting (p .gate .wire .transmit) && full (g .exponent) (p .gate .wire .receive)) false false y
+  gateNotes p Clock y = noted (waiting (wordsIn (p .gate .wire .transmit)) && full (g .exponent) (p .gate .wire .receive)) false false y
   gateNotes p (Noise Gate d) y = noted false false true y
   gateNotes p (Noise Antenna d) y = y
 
@@ -81,8 +82,8 @@ module _ (g a : Job) where
   antennaNotes p (Step Gate busy) y = y
   antennaNotes p (Step Antenna busy) y = noted (stepOverruns a (p .antenna)) false false y
   antennaNotes p Clock y =
-      noted (waiting (p .gate .wire .transmit) && full (a .exponent) (p .antenna .wire .receive))
-      (waiting (p .gate .wire .transmit) && not (waiting (p .antenna .wire .transmit))) false y
+      noted (waiting (wordsIn (p .gate .wire .transmit)) && full (a .exponent) (p .antenna .wire .receive))
+      (waiting (wordsIn (p .gate .wire .transmit)) && not (waiting (wordsIn (p .antenna .wire .transmit)))) false y
   antennaNotes p (Noise Gate d) y = y
   antennaNotes p (Noise Antenna d) y = noted false false true y
 

@@ -8,6 +8,8 @@ pub enum Role {
     Counts,
     // CR
     Control,
+    // TCR
+    Commands,
     // TDR
     Sends,
     // RDR

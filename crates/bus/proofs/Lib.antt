@@ -1,3 +1,4 @@
+pub mod QueuedLaws
 mod HeldLaws
 mod StationLaws
 mod RunLaws

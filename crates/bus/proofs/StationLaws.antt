@@ -22,7 +22,7 @@ use Rattle.agreement.specs.declared.event.Event.{Event}
 use Rattle.agreement.specs.declared.event.Event.the-variants.{Step, Clock, Noise}
 use Rattle.agreement.specs.declared.event.Side.the-variants.{Gate, Antenna}
 use Rattle.agreement.specs.Start.{Job}
-use Rattle.agreement.specs.End.{Wire, queues, raised, arrived, front, behind, answerTo, wireAfter, registersAfter}
+use Rattle.agreement.specs.End.{Wire, raised, wordsIn, wordGone, arrived, front, behind, answerTo, wireAfter, registersAfter}
 use Rattle.agreement.specs.End.{End, end, firstDue, endAccess, endAfter, stepped}
 use Rattle.agreement.specs.Events.{Pair, pair, rewired, clockedBy, happened}
 use Rattle.agreement.proofs.WordLists.{false-true}
@@ -31,7 +31,8 @@ use Rattle.bus.specs.declared.port.Port.{Port}
 use Rattle.bus.specs.declared.station.Link.{Link}
 use Rattle.bus.specs.declared.station.Station.{Station}
 use Rattle.bus.specs.View.{queueOf, wireOf}
-use Rattle.bus.specs.Held.{Sized, endOf, linkJob, sentWord, flushNext, Stored, Clocked}
+use Rattle.bus.specs.Held.{Sized, Idle, endOf, linkJob, sentWord, flushNext, Provided, Clocked}
+use Rattle.bus.proofs.QueuedLaws.{words-queued}
 use Rattle.bus.proofs.HeldLaws.{push-queue, word-taken, wire-sent, Ported, ported}
 
 -- A STEP
@@ -44,10 +45,10 @@ told e busy w g (Send i) = refl
 told e busy w g (Receive i) = refl
 told e busy w g (Done x) = refl
 
--- an access that moves a word is the transfer's
+-- an access that writes or moves a word is the transfer's
 abbrev moves : Access → Bool
 moves (Read r) = false
-moves (Write r v) = false
+moves (Write r v) = true
 moves (Send i) = true
 moves (Receive i) = true
 moves (Done x) = false
@@ -99,8 +100,8 @@ pub step-is : (s : Station) (busy : Bool) (l : Link) (send words registers : Lis
     → ((u : ℕ → ℕ) → registers′ ≡ registersAfter u a registers)
     → n ≡ gotAfter a (s .received) (length words) → words′ ≡ wordsAfter a words (s .received) v
     → t ≡ resumed (s .transfer) v → f ≡ flushNext (s .transfer) (s .flush) v
-    → wireOf p ≡ wireAfter (l .exponent) (λ i. word) a (wireOf (s .port))
-    → s .received ≤ length words → Stored s words
+    → (Idle a (s .port) → wireOf p ≡ wireAfter (l .exponent) (λ i. word) a (wireOf (s .port)))
+    → s .received ≤ length words → Provided s words
     → endOf (record { transfer = t; flush = f; received = n; port = p }) words′ registers′
     ≡ stepped (linkJob l send) busy (endOf s words registers)
 unfolding stepped
@@ -114,9 +115,9 @@ step-is s busy l send words registers a v word n words′ registers′ t f p ea 
     (et ∙ ap (resumed (s .transfer)) same)
     (ef ∙ ap (flushNext (s .transfer) (s .flush)) same)
     (ap₂ take en ews
-    ∙ stored-next a words (s .received) v (λ i e. h i (word-due (s .transfer) (s .flush) (Receive i) refl (sym ea ∙ e)))
+    ∙ stored-next a words (s .received) v (λ i e. h .place i (word-due (s .transfer) (s .flush) (Receive i) refl (sym ea ∙ e)))
     ∙ ap (λ (x : ℕ). receivedAfter a x (take (s .received) words)) ev)
-    (ep
+    (ep (subst (λ (x : Access). Idle x (s .port)) (sym ea) (h .idle))
     ∙ ap (λ (x : ℕ). wireAfter (l .exponent) (λ i. x) a (wireOf (s .port))) ew
     ∙ wire-sent (l .exponent) (wordIn (l .frame) send words (s .received)) a (wireOf (s .port))
     ∙ same-word (l .exponent) (wordIn (l .frame) send words (s .received))
@@ -128,11 +129,15 @@ step-is s busy l send words registers a v word n words′ registers′ t f p ea 
     same = ev ∙ sym (told (l .exponent) busy (wireOf (s .port)) registers a)
 
 -- A CLOCK
-pub no-words : (f : Fifo) → f .count ≡ 0 → queueOf f ≡ []
-no-words f h = ap (λ (n : ℕ). take n (f .words)) h
+pub no-words : (p : Port) → p .transmit .count ≡ 0 → wordsIn (wireOf p .transmit) ≡ []
+no-words p h =
+    words-queued (p .commands) (queueOf (p .transmit)) ∙ ap (λ (n : ℕ). take n (p .transmit .words)) h
 
-pub some-words : (f : Fifo) → Sized f → (f .count ≡ 0 → ⊥) → queueOf f ≡ front (queueOf f) ∷ behind (queueOf f)
-some-words f s h = by-words (f .count) (f .words) h (omega (arith, s .places))
+pub some-words : (p : Port) → Sized (p .transmit) → (p .transmit .count ≡ 0 → ⊥)
+    → wordsIn (wireOf p .transmit) ≡ front (queueOf (p .transmit)) ∷ behind (queueOf (p .transmit))
+some-words p s h =
+    words-queued (p .commands) (queueOf (p .transmit))
+    ∙ by-words (p .transmit .count) (p .transmit .words) h (omega (arith, s .places))
   where
     by-words : (n : ℕ) (words : List ℕ) → (n ≡ 0 → ⊥) → 0 < length words → take n words ≡ front (take n words) ∷ behind (take n words)
     by-words zero words h l = absurd (h refl)
@@ -148,37 +153,36 @@ moved : (s s′ : Station) (p : Port) {w : Wire} → Ported s s′ p → wireOf 
 moved s s′ p {w} e h words registers = ported s s′ p words registers e ∙ ap (λ (x : Wire). rewired (λ y. x) (endOf s words registers)) h
 
 module _ (eg ea : ℕ) (g a : Station) where
-  -- nothing if the gate's transmit queue is empty
-  pub clock-nothing : queueOf (g .port .transmit) ≡ [] → Clocked eg ea g a (record { gate = g; antenna = a })
+  -- nothing if the gate has no word to send
+  pub clock-nothing : wordsIn (wireOf (g .port) .transmit) ≡ [] → Clocked eg ea g a (record { gate = g; antenna = a })
   unfolding clockedBy
   clock-nothing h = λ wg rg wa ra jg ja e₁ e₂. rw h
 
   module _ (g′ a′ : Station) (gp ap′ : Port) (pg : Ported g g′ gp) (pa : Ported a a′ ap′) where
     -- the antenna has none: one is made up
-    pub clock-made-up : (v : ℕ) (ours : List ℕ) → queueOf (g .port .transmit) ≡ v ∷ ours → queueOf (a .port .transmit) ≡ []
-        → wireOf gp ≡ arrived eg 0 (queues ours (queueOf (g .port .receive)) (wireOf (g .port)))
+    pub clock-made-up : (v : ℕ) (ours : List ℕ) → wordsIn (wireOf (g .port) .transmit) ≡ v ∷ ours
+        → wordsIn (wireOf (a .port) .transmit) ≡ []
+        → wireOf gp ≡ arrived eg 0 (wordGone (wireOf (g .port)))
         → wireOf ap′ ≡ arrived ea v (raised Tx (wireOf (a .port)))
         → Clocked eg ea g a (record { gate = g′; antenna = a′ })
     unfolding clockedBy
     clock-made-up v ours eo et wg wa = λ ws rs xs ys jg ja e₁ e₂.
         same-pair
-        (moved g g′ gp pg
-        (wg ∙ ap (λ (e : ℕ). arrived e 0 (queues ours (queueOf (g .port .receive)) (wireOf (g .port)))) (sym e₁)) ws rs)
+        (moved g g′ gp pg (wg ∙ ap (λ (e : ℕ). arrived e 0 (wordGone (wireOf (g .port)))) (sym e₁)) ws rs)
         (moved a a′ ap′ pa (wa ∙ ap (λ (e : ℕ). arrived e v (raised Tx (wireOf (a .port)))) (sym e₂)) xs ys)
         ∙ ap₂ (λ (q r : List ℕ). clockedBy jg ja q r (pair (endOf g ws rs) (endOf a xs ys))) (sym eo) (sym et)
 
     -- a word each way
-    pub clock-both : (v u : ℕ) (ours theirs : List ℕ) → queueOf (g .port .transmit) ≡ v ∷ ours → queueOf (a .port .transmit) ≡ u ∷ theirs
-        → wireOf gp ≡ arrived eg u (queues ours (queueOf (g .port .receive)) (wireOf (g .port)))
-        → wireOf ap′ ≡ arrived ea v (queues theirs (queueOf (a .port .receive)) (wireOf (a .port)))
+    pub clock-both : (v u : ℕ) (ours theirs : List ℕ) → wordsIn (wireOf (g .port) .transmit) ≡ v ∷ ours
+        → wordsIn (wireOf (a .port) .transmit) ≡ u ∷ theirs
+        → wireOf gp ≡ arrived eg u (wordGone (wireOf (g .port)))
+        → wireOf ap′ ≡ arrived ea v (wordGone (wireOf (a .port)))
         → Clocked eg ea g a (record { gate = g′; antenna = a′ })
     unfolding clockedBy
     clock-both v u ours theirs eo et wg wa = λ ws rs xs ys jg ja e₁ e₂.
         same-pair
-        (moved g g′ gp pg
-        (wg ∙ ap (λ (e : ℕ). arrived e u (queues ours (queueOf (g .port .receive)) (wireOf (g .port)))) (sym e₁)) ws rs)
-        (moved a a′ ap′ pa
-        (wa ∙ ap (λ (e : ℕ). arrived e v (queues theirs (queueOf (a .port .receive)) (wireOf (a .port)))) (sym e₂)) xs ys)
+        (moved g g′ gp pg (wg ∙ ap (λ (e : ℕ). arrived e u (wordGone (wireOf (g .port)))) (sym e₁)) ws rs)
+        (moved a a′ ap′ pa (wa ∙ ap (λ (e : ℕ). arrived e v (wordGone (wireOf (a .port)))) (sym e₂)) xs ys)
         ∙ ap₂ (λ (q r : List ℕ). clockedBy jg ja q r (pair (endOf g ws rs) (endOf a xs ys))) (sym eo) (sym et)
 
 -- ONE EVENT
@@ -191,7 +195,7 @@ module _ (jg ja : Job) (x y : End) (v : Event) where
   unfolding happened
   antenna-step-is busy y′ e h = rw e (ap (pair x) h)
 
-  pub clock-is : (p : Pair) → v ≡ Clock → p ≡ clockedBy jg ja (x .wire .transmit) (y .wire .transmit) (pair x y)
+  pub clock-is : (p : Pair) → v ≡ Clock → p ≡ clockedBy jg ja (wordsIn (x .wire .transmit)) (wordsIn (y .wire .transmit)) (pair x y)
       → p ≡ happened jg ja (pair x y) v
   unfolding happened
   clock-is p e h = rw e h

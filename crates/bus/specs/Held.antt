@@ -1,6 +1,6 @@
 -- What the code holds of an end, between its entry and its answer.
 -- Assumes nothing.
-use Prim.Native.Nat.{ℕ, _<_, _≤_}
+use Prim.Native.Nat.{ℕ, _+_, _<_, _≤_}
 use mathlib.Core.Bool.{true, false, cond}
 use mathlib.Core.List.{List, [], _∷_}
 use mathlib.Core.Path.{_≡_}
@@ -24,7 +24,8 @@ use Rattle.transfers.specs.declared.begin.Ways.the-variants.{Both}
 use Rattle.transfers.specs.Transfers.{begun}
 use Rattle.transfers.specs.Begin.{lengthPlan}
 use Rattle.agreement.specs.Start.{Start, started, total, frameWords, accepted, unfit, Job, job}
-use Rattle.agreement.specs.End.{freshWire, End, end}
+use Rattle.agreement.specs.declared.register.Role.the-variants.{Commands as commands}
+use Rattle.agreement.specs.End.{wordsIn, roleOf, freshWire, End, end, endAccess}
 use Rattle.agreement.specs.Events.{Pair, pair, clockedBy, freshPair, pairAfter}
 use Rattle.agreement.specs.Agreement.{seen}
 use Rattle.agreement.specs.Codes.{eventsOf}
@@ -43,10 +44,11 @@ pub record Sized (f : Fifo) : Type 0 where
   pub places : length (f .words) ≡ 16
   pub within : f .count ≤ 16
 
--- so have both FIFOs of a port
+-- so have both FIFOs of a port; its commands take places, too
 pub record Roomy (p : Port) : Type 0 where
   pub transmit : Sized (p .transmit)
   pub receive : Sized (p .receive)
+  pub taken : p .commands + p .transmit .count ≤ 16
 
 -- an end, of the words received and the registers that stand beside it
 abbrev pub endOf : Station → List ℕ → List ℕ → End
@@ -72,16 +74,25 @@ flushNext t f v = cond (ended (dueAccess t)) (flushed f v) f
 abbrev pub controlHeld : ℕ → ℕ
 controlHeld v = setAll ((Cr RTF, 0) ∷ (Cr RRF, 0) ∷ []) v
 
--- there is a place for the word that is received next
-abbrev pub Stored : Station → List ℕ → Type 0
-Stored s words = (i : ℕ) → dueAccess (s .transfer) ≡ Receive i → s .received < length words
+-- an access that writes a command finds no word queued
+abbrev pub Idle : Access → Port → Type 0
+Idle (Read r) p = Unit {0}
+Idle (Write r v) p = roleOf r ≡ commands → queueOf (p .transmit) ≡ []
+Idle (Send i) p = Unit {0}
+Idle (Receive i) p = Unit {0}
+Idle (Done x) p = Unit {0}
+
+-- what the access that is due needs: a place for the word that it receives, no word before the command that it writes
+pub record Provided (s : Station) (words : List ℕ) : Type 0 where
+  pub place : (i : ℕ) → dueAccess (s .transfer) ≡ Receive i → s .received < length words
+  pub idle : Idle (endAccess (s .transfer) (s .flush)) (s .port)
 
 -- a clock, whatever words and registers are
 abbrev pub Clocked : ℕ → ℕ → Station → Station → Stations → Type 0
 Clocked eg ea g a r =
     (wg rg wa ra : List ℕ) (jg ja : Job) → jg .exponent ≡ eg → ja .exponent ≡ ea
     → pair (endOf (r .gate) wg rg) (endOf (r .antenna) wa ra)
-    ≡ clockedBy jg ja (queueOf (g .port .transmit)) (queueOf (a .port .transmit)) (pair (endOf g wg rg) (endOf a wa ra))
+    ≡ clockedBy jg ja (wordsIn (wireOf (g .port) .transmit)) (wordsIn (wireOf (a .port) .transmit)) (pair (endOf g wg rg) (endOf a wa ra))
 
 -- before a clock: small exponents, and FIFOs with room
 pub record Clockable (eg ea : ℕ) (g a : Station) : Type 0 where

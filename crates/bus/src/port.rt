@@ -1,8 +1,11 @@
 // The FIFOs and error flags of an end.
 ghost use Prim.Native.Nat.{_^_, _≤_};
 ghost use mathlib.Core.Bool.{false, cond};
+ghost use mathlib.Core.List.{[]};
 ghost use mathlib.Core.Path.{_≡_};
-ghost use Rattle.agreement.specs.End.{queues, behind, raised, full, sentInto, arrived, emptiedIf, showsBy, readBy, writtenBy, freshWire};
+ghost use lib.ListN.{length};
+ghost use Rattle.agreement.specs.End.{Command, Word, wordGone, raised, full, sentInto, arrived, emptiedIf};
+ghost use Rattle.agreement.specs.End.{showsBy, readBy, writtenBy, freshWire};
 ghost use Rattle.bus.specs.View.{queueOf, wireOf};
 ghost use Rattle.bus.specs.Held.{Sized, Roomy};
 use crate::fifo::Fifo;
@@ -16,6 +19,9 @@ use words::transaction::Direction;
 use words::transaction::flag;
 
 pub struct Port {
+    // The commands in the transmit FIFO, before its words.
+    pub commands: u32,
+    // Its words.
     pub transmit: Fifo,
     pub receive: Fifo,
     // The transmit error flag.
@@ -49,6 +55,16 @@ fn lowered(clear: bool, on: bool) -> bool
     on
 }
 
+// A count after a write that may empty what it counts.
+fn none_if(empty: bool, n: u32) -> u32
+    ensures { λ r. ⌜ r ≡ cond empty 0 n ⌝ }
+{
+    if empty {
+        return 0;
+    }
+    n
+}
+
 // A FIFO after a write that may empty it.
 fn emptied_if(empty: bool, fifo: Fifo) -> Fifo
     requires { ⌜ Sized fifo ⌝ }
@@ -65,6 +81,7 @@ impl Port {
         ensures { λ r. ⌜ Roomy r × (wireOf r ≡ freshWire) ⌝ }
     {
         Port {
+            commands: 0,
             transmit: Fifo::new(),
             receive: Fifo::new(),
             t: false,
@@ -89,18 +106,56 @@ impl Port {
         p
     }
 
+    // The places of the transmit FIFO that are taken.
+    fn taken(self) -> usize
+        requires { ⌜ Roomy self ⌝ }
+        ensures { λ r. ⌜ (r ≡ length (wireOf self .transmit)) × (r ≤ 16) ⌝ }
+    {
+        let transmit = self.transmit;
+        self.commands as usize + transmit.count
+    }
+
+    // No place of it is free.
+    fn is_crowded(self, exponent: usize) -> bool
+        requires { ⌜ (exponent ≤ 4) × Roomy self ⌝ }
+        ensures { λ r. ⌜ r ≡ full exponent (wireOf self .transmit) ⌝ }
+    {
+        capacity(exponent) <= self.taken()
+    }
+
     // A word written to TDR: lost onto a full FIFO.
     fn send(self, exponent: usize, word: u32) -> Self
         requires { ⌜ (exponent ≤ 4) × Roomy self ⌝ }
-        ensures { λ x. ⌜ Roomy x × (wireOf x ≡ sentInto exponent word (wireOf self)) ⌝ }
+        ensures { λ x. ⌜ Roomy x × (wireOf x ≡ sentInto exponent (Word word) (wireOf self)) ⌝ }
     {
-        let transmit = self.transmit;
-        if is_full(transmit, exponent) {
+        if self.is_crowded(exponent) {
             return self.raise(Direction::Tx);
         }
+        let transmit = self.transmit;
         let receive = self.receive;
         Port {
+            commands: self.commands,
             transmit: transmit.push(word),
+            receive,
+            t: self.t,
+            r: self.r,
+        }
+    }
+
+    // A command written to TCR, where no word is queued: lost onto a full FIFO.
+    fn command(self, exponent: usize) -> Self
+        requires { ⌜ (exponent ≤ 4) × Roomy self ⌝ }
+        ensures { λ x. ⌜ Roomy x
+            × (queueOf (self .transmit) ≡ [] → wireOf x ≡ sentInto exponent Command (wireOf self)) ⌝ }
+    {
+        if self.is_crowded(exponent) {
+            return self.raise(Direction::Tx);
+        }
+        let transmit = self.transmit;
+        let receive = self.receive;
+        Port {
+            commands: self.commands + 1,
+            transmit,
             receive,
             t: self.t,
             r: self.r,
@@ -118,6 +173,7 @@ impl Port {
         }
         let transmit = self.transmit;
         Port {
+            commands: self.commands,
             transmit,
             receive: receive.push(word),
             t: self.t,
@@ -141,12 +197,12 @@ impl Port {
                 Field::Sr(Sr::TEF).set(flag(self.t), receive)
             }
             Role::Counts => {
-                let transmit = self.transmit;
                 let receive = self.receive;
-                let counts = Field::Fsr(Fsr::TXCOUNT).set(transmit.count as u32, 0);
+                let counts = Field::Fsr(Fsr::TXCOUNT).set(self.taken() as u32, 0);
                 Field::Fsr(Fsr::RXCOUNT).set(receive.count as u32, counts)
             }
             Role::Control => held,
+            Role::Commands => held,
             Role::Sends => held,
             Role::Receives => {
                 let receive = self.receive;
@@ -166,6 +222,7 @@ impl Port {
             Role::Status => self,
             Role::Counts => self,
             Role::Control => self,
+            Role::Commands => self,
             Role::Sends => self,
             Role::Receives => self.received(),
             Role::Holds => self,
@@ -180,6 +237,7 @@ impl Port {
         let transmit = self.transmit;
         let receive = self.receive;
         Port {
+            commands: self.commands,
             transmit,
             receive: receive.rest(),
             t: self.t,
@@ -187,15 +245,15 @@ impl Port {
         }
     }
 
-    // Without the first word to be sent.
+    // Without the first word to be sent, and the commands before it.
     pub(crate) fn without_first(self) -> Self
         requires { ⌜ Roomy self ⌝ }
-        ensures { λ x. ⌜ Roomy x
-            × (wireOf x ≡ queues (behind (queueOf (self .transmit))) (queueOf (self .receive)) (wireOf self)) ⌝ }
+        ensures { λ x. ⌜ Roomy x × (wireOf x ≡ wordGone (wireOf self)) ⌝ }
     {
         let transmit = self.transmit;
         let receive = self.receive;
         Port {
+            commands: 0,
             transmit: transmit.rest(),
             receive,
             t: self.t,
@@ -211,6 +269,7 @@ impl Port {
         let transmit = self.transmit;
         let receive = self.receive;
         Port {
+            commands: self.commands,
             transmit,
             receive,
             t: lowered(Field::Sr(Sr::TEF).read(status) == 1, self.t),
@@ -228,8 +287,10 @@ impl Port {
         if Field::Cr(Cr::RST).read(control) == 1 {
             return Port::new();
         }
+        let flushed = Field::Cr(Cr::RTF).read(control) == 1;
         Port {
-            transmit: emptied_if(Field::Cr(Cr::RTF).read(control) == 1, transmit),
+            commands: none_if(flushed, self.commands),
+            transmit: emptied_if(flushed, transmit),
             receive: emptied_if(Field::Cr(Cr::RRF).read(control) == 1, receive),
             t: self.t,
             r: self.r,
@@ -239,13 +300,15 @@ impl Port {
     // After a write to a register of that role.
     pub(crate) fn after_write(self, role: Role, exponent: usize, value: u32) -> Self
         requires { ⌜ (exponent ≤ 4) × Roomy self ⌝ }
-        ensures { λ x. ⌜ Roomy x × (wireOf x ≡ writtenBy exponent role value (wireOf self)) ⌝ }
+        ensures { λ x. ⌜ Roomy x
+            × ((role ≡ Role.Commands → queueOf (self .transmit) ≡ []) → wireOf x ≡ writtenBy exponent role value (wireOf self)) ⌝ }
     {
         match role {
             Role::Sizes => self,
             Role::Status => self.clear(value),
             Role::Counts => self,
             Role::Control => self.reset(value),
+            Role::Commands => self.command(exponent),
             Role::Sends => self.send(exponent, value),
             Role::Receives => self,
             Role::Holds => self,

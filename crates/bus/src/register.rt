@@ -21,7 +21,7 @@ pub(crate) fn role_of(register: Register) -> Role
         Register::CCR => Role::Holds,
         Register::FCR => Role::Holds,
         Register::FSR => Role::Counts,
-        Register::TCR => Role::Holds,
+        Register::TCR => Role::Commands,
         Register::TDR => Role::Sends,
         Register::RSR => Role::Holds,
         Register::RDR => Role::Receives,

@@ -4,7 +4,7 @@ ghost use lib.ListN.{length};
 ghost use Rattle.agreement.specs.Events.{happened, pairAfter, freshPair};
 ghost use Rattle.agreement.specs.Codes.{eventsOf};
 ghost use Rattle.agreement.specs.Start.{Start};
-ghost use Rattle.bus.specs.Held.{Stored, linkJob, Linked, Room, pairOf};
+ghost use Rattle.bus.specs.Held.{Provided, linkJob, Linked, Room, pairOf};
 use crate::clock::Stations;
 use crate::clock::clock;
 use crate::event::event_of;
@@ -30,8 +30,8 @@ fn happen(
         (length (now «antenna_words»)) ⌝ }
     ensures room { λ r. ⌜ Room «gate_link» «antenna_link» r (length (now («gate_words» .entry)))
         (length (now («antenna_words» .entry))) ⌝ }
-    ensures happened { λ r. ⌜ (Stored (stations .gate) (now («gate_words» .entry))
-        → Stored (stations .antenna) (now («antenna_words» .entry))
+    ensures happened { λ r. ⌜ (Provided (stations .gate) (now («gate_words» .entry))
+        → Provided (stations .antenna) (now («antenna_words» .entry))
         → pairOf r (now («gate_words» .exit)) (now («gate_registers» .exit))
         (now («antenna_words» .exit)) (now («antenna_registers» .exit))
         ≡ happened (linkJob «gate_link» (now («gate_send» .entry)))

@@ -9,7 +9,7 @@ ghost use Rattle.runs.specs.Drive.{wordIn};
 ghost use Rattle.agreement.specs.End.{roleOf, placeOf, endAccess, answerTo, wireAfter, heldBy, registersAfter, raised, stepped};
 ghost use Rattle.agreement.specs.Events.{rewired};
 ghost use Rattle.bus.specs.View.{wireOf};
-ghost use Rattle.bus.specs.Held.{Roomy, endOf, linkJob, sentWord, flushNext, controlHeld, Stored};
+ghost use Rattle.bus.specs.Held.{Roomy, endOf, linkJob, sentWord, flushNext, controlHeld, Idle, Provided};
 use crate::port::Port;
 use crate::register::place_of;
 use crate::register::role_of;
@@ -107,7 +107,7 @@ fn sent(access: Access, frame: Frame, send: &[u32], words: &[u32], received: usi
 // The port after an access, where `word` is what is sent.
 fn port_after(access: Access, exponent: usize, word: u32, port: Port) -> Port
     requires { ⌜ (exponent ≤ 4) × Roomy port ⌝ }
-    ensures { λ r. ⌜ Roomy r × (wireOf r ≡ wireAfter exponent (λ (i : ℕ). word) access (wireOf port)) ⌝ }
+    ensures { λ r. ⌜ Roomy r × (Idle access port → wireOf r ≡ wireAfter exponent (λ (i : ℕ). word) access (wireOf port)) ⌝ }
 {
     match access {
         Access::Read(r) => port.after_read(role_of(r)),
@@ -137,6 +137,9 @@ fn write(registers: &mut [u32; 30], register: Register, value: u32)
         Role::Counts => {}
         Role::Control => {
             registers[i] = control_held(value);
+        }
+        Role::Commands => {
+            registers[i] = value;
         }
         Role::Sends => {}
         Role::Receives => {}
@@ -174,7 +177,7 @@ pub(crate) fn step(
     requires { ⌜ (link .exponent ≤ 4) × Roomy (station .port) × (station .received ≤ length (now words)) ⌝ }
     ensures { λ r. ⌜ Roomy (r .port) × (r .received ≤ length (now (words .entry)))
         ×
-        (Stored station (now (words .entry)) → endOf r (now (words .exit)) (now (registers .exit))
+        (Provided station (now (words .entry)) → endOf r (now (words .exit)) (now (registers .exit))
         ≡ stepped (linkJob link (now (send .entry))) busy
         (endOf station (now (words .entry)) (now (registers .entry)))) ⌝ }
 {

@@ -65,45 +65,45 @@ module _ (w : Width) (gateDriver antennaDriver inplace gateExponent antennaExpon
       (small (gateStart .board .inplace) gateRead gateWrite gr gw)
       (small (antennaStart .board .inplace) antennaRead antennaWrite ar aw) (eventsOf events))
 
-  -- THE STATES: where the number is 0 and 136 words were lent, word i of the gate's 68 and of the antenna's
-  module _ (room : 136 ≤ length state) (zero-number : left .number ≡ 0) where
+  -- THE STATES: where the number is 0 and 138 words were lent, word i of the gate's 69 and of the antenna's
+  module _ (room : 138 ≤ length state) (zero-number : left .number ≡ 0) where
     abbrev g : Seen
     g = outcome .gate
 
     abbrev a : Seen
     a = outcome .antenna
 
-    all-words : length (stateWords g ++ stateWords a) ≡ 136
+    all-words : length (stateWords g ++ stateWords a) ≡ 138
     all-words = length-append (stateWords g) (stateWords a) ∙ ap₂ _+_ (length-state g) (length-state a)
 
-    state-at : (i : ℕ) → i < 136 → getD (left .state) i 0 ≡ getD (stateWords g ++ stateWords a) i 0
+    state-at : (i : ℕ) → i < 138 → getD (left .state) i 0 ≡ getD (stateWords g ++ stateWords a) i 0
     state-at i l =
         ap (λ (n : ℕ). getD (stateLeft n g a state) i 0) zero-number
         ∙ laid-at (stateWords g ++ stateWords a) state i (omega (arith, all-words)) (omega arith)
 
-    pub gate-state : (i : ℕ) → i < 68 → getD (left .state) i 0 ≡ getD (stateWords g) i 0
+    pub gate-state : (i : ℕ) → i < 69 → getD (left .state) i 0 ≡ getD (stateWords g) i 0
     gate-state i l = state-at i (omega arith) ∙ List·getD-append (stateWords g) (stateWords a) 0 i (omega (arith, length-state g))
 
-    pub antenna-state : (i : ℕ) → i < 68 → getD (left .state) (68 + i) 0 ≡ getD (stateWords a) i 0
+    pub antenna-state : (i : ℕ) → i < 69 → getD (left .state) (69 + i) 0 ≡ getD (stateWords a) i 0
     antenna-state i l =
-        state-at (68 + i) (omega arith)
+        state-at (69 + i) (omega arith)
         ∙ ap (λ (n : ℕ). getD (stateWords g ++ stateWords a) (n + i) 0) (sym (length-state g))
         ∙ getD-append-add (stateWords g) (stateWords a) i 0
 
-    ok-of-state : (x : Seen) (at : ℕ → ℕ) → ((i : ℕ) → i < 68 → at i ≡ getD (stateWords x) i 0) → at 0 ≡ 0 → at 1 ≡ 0 → OkTwice x
+    ok-of-state : (x : Seen) (at : ℕ → ℕ) → ((i : ℕ) → i < 69 → at i ≡ getD (stateWords x) i 0) → at 0 ≡ 0 → at 1 ≡ 0 → OkTwice x
     ok-of-state x at h t f = ok-of-numbers x (sym (h 0 (omega arith)) ∙ t) (sym (h 1 (omega arith)) ∙ f)
 
-    -- Ok twice, as a host reads it: words 0 and 1 are 0, and 68 and 69. So what `Agreement` says of such ends, it says of these words
+    -- Ok twice, as a host reads it: words 0 and 1 are 0, and 69 and 70. So what `Agreement` says of such ends, it says of these words
     pub gate-ok : getD (left .state) 0 0 ≡ 0 → getD (left .state) 1 0 ≡ 0 → OkTwice g
     gate-ok = ok-of-state g (λ i. getD (left .state) i 0) gate-state
 
-    pub antenna-ok : getD (left .state) 68 0 ≡ 0 → getD (left .state) 69 0 ≡ 0 → OkTwice a
-    antenna-ok = ok-of-state a (λ i. getD (left .state) (68 + i) 0) antenna-state
+    pub antenna-ok : getD (left .state) 69 0 ≡ 0 → getD (left .state) 70 0 ≡ 0 → OkTwice a
+    antenna-ok = ok-of-state a (λ i. getD (left .state) (69 + i) 0) antenna-state
 
     -- WHAT A HOST MAY CONCLUDE from four answers 0: each read buffer has the other board's elements, or fillers
     pub host-holds : Elements (widthBits w) gateRead → Elements (widthBits w) gateWrite → Elements (widthBits w) antennaRead
-        → Elements (widthBits w) antennaWrite → getD (left .state) 0 0 ≡ 0 → getD (left .state) 1 0 ≡ 0 → getD (left .state) 68 0 ≡ 0
-        → getD (left .state) 69 0 ≡ 0 → Holds gateStart antennaStart (left .gateRead) × Holds antennaStart gateStart (left .antennaRead)
+        → Elements (widthBits w) antennaWrite → getD (left .state) 0 0 ≡ 0 → getD (left .state) 1 0 ≡ 0 → getD (left .state) 69 0 ≡ 0
+        → getD (left .state) 70 0 ≡ 0 → Holds gateStart antennaStart (left .gateRead) × Holds antennaStart gateStart (left .antennaRead)
     host-holds gr gw ar aw gt gf at af =
         let d = host-agreement gr gw ar aw zero-number in
         (d .gateHolds (gate-ok gt gf) (antenna-ok at af), d .antennaHolds (gate-ok gt gf) (antenna-ok at af))

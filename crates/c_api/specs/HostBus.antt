@@ -1,7 +1,7 @@
 -- The two-board bus for a host: both boards at one width, and what a trial leaves: its number, both read buffers, and both ends' states
 -- as words.
 -- Assumes nothing.
-use Prim.Native.Nat.{ℕ, _/_, _%_}
+use Prim.Native.Nat.{ℕ, suc, _/_, _%_}
 use mathlib.Core.Bool.{cond}
 use mathlib.Core.List.{List, [], _∷_, _++_}
 use lib.Dec.{eqb}
@@ -19,12 +19,12 @@ use Rattle.machine.specs.Flush.{flushAccess}
 use Rattle.machine.specs.Transfer.{dueAccess}
 use Rattle.agreement.specs.declared.board.Board.{Board}
 use Rattle.agreement.specs.Agreement.{Seen}
-use Rattle.agreement.specs.End.{Wire}
+use Rattle.agreement.specs.End.{Item, Command, Word, Wire, wordsIn}
 use Rattle.words.specs.Width.{widthBits}
 use Rattle.bus.specs.Trial.{TrialLeft, trialOf}
 use Rattle.c_api.specs.HostRun.{driverOf}
 
--- THE STATE OF AN END, 68 words
+-- THE STATE OF AN END, 69 words
 
 -- document 01's number of an answer, 255 while there is none
 abbrev pub answerNumber : Access → ℕ
@@ -38,13 +38,20 @@ answerNumber (Done x) = numberOf x
 abbrev pub headWords : Transfer → Flush → Wire → List ℕ
 headWords transfer flush wire =
     answerNumber (dueAccess transfer) ∷ answerNumber (flushAccess flush) ∷ flagOf (wire .t) ∷ flagOf (wire .r)
-    ∷ length (wire .transmit) ∷ length (wire .receive) ∷ []
+    ∷ length (wordsIn (wire .transmit)) ∷ length (wire .receive) ∷ []
 
--- then the transmit queue, 0 past its words, the receive queue, and the 30 registers
+-- how many commands a transmit queue has; they stand before its words
+abbrev pub commandsIn : List Item → ℕ
+commandsIn [] = 0
+commandsIn (Command ∷ queue) = suc (commandsIn queue)
+commandsIn (Word v ∷ queue) = commandsIn queue
+
+-- then the words to be sent, 0 past them, the receive queue, the 30 registers, and the commands in the transmit queue
 abbrev pub stateWords : Seen → List ℕ
 stateWords x =
     headWords (x .transfer) (x .flush) (x .wire)
-    ++ (filled 0 16 (x .wire .transmit) ++ (filled 0 16 (x .wire .receive) ++ filled 0 30 (x .registers)))
+    ++ (filled 0 16 (wordsIn (x .wire .transmit))
+    ++ (filled 0 16 (x .wire .receive) ++ (filled 0 30 (x .registers) ++ (commandsIn (x .wire .transmit) ∷ []))))
 
 -- THE TRIAL
 

@@ -1,9 +1,9 @@
 // Two boards over the bus: the number of a trial, with both read buffers and both ends' states where they go.
 //
-// `state` gets 136 words, 68 for each end, the gate's first: the numbers of its transfer and its flush, or 255; T and R; how many words
-// are to be sent and to be read; 16 places for each; the 30 registers. What has no room is dropped. The answer is 0, or 9 for boards
-// that make no pair. At 9 `state` and both read buffers are as found, so a host looks at the number first: zeros that it lent as
-// `state` would read as Ok twice at both ends.
+// `state` gets 138 words, 69 for each end, the gate's first: the numbers of its transfer and its flush, or 255; T and R; how many words
+// are to be sent and to be read; 16 places for each; the 30 registers; how many commands stand before the words to be sent. What has no
+// room is dropped. The answer is 0, or 9 for boards that make no pair. At 9 `state` and both read buffers are as found, so a host looks
+// at the number first: zeros that it lent as `state` would read as Ok twice at both ends.
 ghost use Prim.Native.Nat.{_<_, min};
 ghost use mathlib.Core.List.{_++_};
 ghost use mathlib.Core.Path.{_≡_};
@@ -62,7 +62,7 @@ fn head(station: Station) -> [u32; 6]
 
 // Word `i` of an end's state.
 fn state_word(end: EndState, i: usize) -> u32
-    requires { ⌜ i < 68 ⌝ }
+    requires { ⌜ i < 69 ⌝ }
     ensures { λ r. ⌜ r ≡ getD (stateWords (stateOf end)) i 0 ⌝ }
 {
     let station = end.station;
@@ -79,19 +79,22 @@ fn state_word(end: EndState, i: usize) -> u32
         let receive = port.receive;
         return receive.word(i - 22);
     }
-    let registers = end.registers;
-    registers[i - 38]
+    if i < 68 {
+        let registers = end.registers;
+        return registers[i - 38];
+    }
+    port.commands
 }
 
 // Word `i` of both states.
 fn pair_word(gate: EndState, antenna: EndState, i: usize) -> u32
-    requires { ⌜ i < 136 ⌝ }
+    requires { ⌜ i < 138 ⌝ }
     ensures { λ r. ⌜ r ≡ getD (stateWords (stateOf gate) ++ stateWords (stateOf antenna)) i 0 ⌝ }
 {
-    if i < 68 {
+    if i < 69 {
         return state_word(gate, i);
     }
-    state_word(antenna, i - 68)
+    state_word(antenna, i - 69)
 }
 
 // What has no room is dropped.
@@ -99,7 +102,7 @@ fn show(gate: EndState, antenna: EndState, state: &mut [u32])
     ensures { λ _. ⌜ now (state .exit)
         ≡ laid (stateWords (stateOf gate) ++ stateWords (stateOf antenna)) (now (state .entry)) ⌝ }
 {
-    let n = least(136, state.len());
+    let n = least(138, state.len());
     for i in 0..n {
         state[i] = pair_word(gate, antenna, i);
     }

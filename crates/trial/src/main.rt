@@ -1,12 +1,12 @@
 // Two boards over the bus, from standard input: trials of four lines each, and empty lines between them.
 //
-//   M S2 P1      order (M or L); for the gate and for the antenna: S (separate) or P (in place), and the FIFO exponent
+//   M S2 P3      order (M or L); for the gate and for the antenna: S (separate) or P (in place), and the FIFO exponent
 //   HELLO        the gate's elements, as text: each byte is one
 //   tag 7        the antenna's elements
 //   gggg aaaa c  events: g and a steps of gate and antenna, G and A busy ones, c a clock, t and r noise at the gate (T, R), T and R at
 //                the antenna
 //
-// An element has 8 bits, unless the first line goes on with the gate's and the antenna's width (8, 16 or 32), as in `M S2 P1 16 16`.
+// An element has 8 bits, unless the first line goes on with the gate's and the antenna's width (8, 16 or 32), as in `M S2 P3 16 16`.
 // A separate read buffer is as long as the longer line and starts as zeros. Spaces between events are passed over. A board has at most 512
 // elements, and a trial at most 65,536 letters and spaces of events. A trial with a line of another form prints `bad` and its number, from
 // 1 on. Lines missing at the end count as empty. An input of more than 262,144 bytes prints `bad`, and none of its trials is run.
@@ -104,6 +104,17 @@ fn flag(name: &[u8], on: bool) {
     }
 }
 
+fn command() {
+    text(b" command");
+}
+
+// The commands of a transmit FIFO, which stand before its words.
+fn commands(n: u32) {
+    for _ in 0..n {
+        command();
+    }
+}
+
 fn queue(fifo: Fifo) {
     let n = fifo.len();
     for i in 0..n {
@@ -126,6 +137,7 @@ fn show_end(end: EndState) {
     flag(b" T", port.t);
     flag(b" R", port.r);
     text(b" sending");
+    commands(port.commands);
     queue(transmit);
     text(b" receiving");
     queue(receive);

@@ -1,5 +1,6 @@
 //! Two boards on one bus, with the original at each end. Written from the scope
-//! document's text.
+//! document's text, and from request No. 2's: a command takes a place of the transmit
+//! queue and leaves with the next word behind it.
 //!
 //! An end waits at each of its accesses. The one that it makes next is had by running
 //! its call again on the answers that it has had. That takes long, so guesses of the
@@ -12,6 +13,7 @@ const PARAM: u32 = 0x04;
 const CR: u32 = 0x10;
 const SR: u32 = 0x14;
 const FSR: u32 = 0x5C;
+const TCR: u32 = 0x60;
 const TDR: u32 = 0x64;
 const RDR: u32 = 0x74;
 const WRITE: u32 = 0x1000;
@@ -25,7 +27,7 @@ const REGISTERS: usize = 30;
 /// How many answers are guessed.
 const GUESSES: usize = 8;
 /// Words of [`End::state`].
-pub const STATE: usize = 38 + REGISTERS;
+pub const STATE: usize = 38 + REGISTERS + 1;
 
 /// One of the two ends.
 #[derive(Debug, Clone, Copy, PartialEq, Eq)]
@@ -146,11 +148,28 @@ struct Progress {
     number: Option<u32>,
 }
 
+/// What takes a place of a transmit queue.
+#[derive(Debug, Clone, Copy, PartialEq, Eq)]
+enum Queued {
+    Command,
+    Word(u32),
+}
+
 /// What happened to an end.
 #[derive(Debug, Default, Clone, Copy)]
 pub struct Happened {
-    /// Words lost by a write of TDR.
+    /// Words and commands lost by a write of TDR or TCR.
     pub lost_sent: u32,
+    /// Words written to TDR.
+    pub sent: u32,
+    /// Commands written to TCR.
+    pub commands: u32,
+    /// Of these, where something was queued already.
+    pub commands_behind: u32,
+    /// Commands that RTF or RST took out of the queue.
+    pub commands_cleared: u32,
+    /// Clocks, and of the antenna underruns, that found a command and no word behind it.
+    pub commands_kept: u32,
     /// Words lost by arriving at a full queue.
     pub lost_received: u32,
     /// Words made up where there was none to be sent.
@@ -164,7 +183,7 @@ pub struct End {
     exponent: usize,
     t: bool,
     r: bool,
-    transmit: VecDeque<u32>,
+    transmit: VecDeque<Queued>,
     receive: VecDeque<u32>,
     registers: [u32; REGISTERS],
     /// The transfer and the flush.
@@ -204,19 +223,48 @@ impl End {
         1 << self.exponent
     }
 
-    /// Words in the transmit queue and in the receive queue.
+    /// Places taken in the transmit queue and in the receive queue.
     pub fn counts(&self) -> [usize; 2] {
         [self.transmit.len(), self.receive.len()]
     }
 
+    /// The words to be sent.
+    fn words(&self) -> impl Iterator<Item = u32> {
+        self.transmit.iter().filter_map(|queued| match queued {
+            Queued::Command => None,
+            Queued::Word(word) => Some(*word),
+        })
+    }
+
+    /// Commands in the transmit queue.
+    fn commands(&self) -> usize {
+        self.transmit.len() - self.words().count()
+    }
+
     /// Whether a clock finds a word to send and room for the one that arrives.
     pub fn ready(&self) -> bool {
-        !self.transmit.is_empty() && self.receive.len() < self.capacity()
+        self.words().next().is_some() && self.receive.len() < self.capacity()
+    }
+
+    /// Takes out the first word to be sent, and the commands before it. Where there is
+    /// no word, commands stay.
+    fn send(&mut self) -> Option<u32> {
+        let word = self.words().next();
+        match word {
+            Some(_) => while self.transmit.pop_front() == Some(Queued::Command) {},
+            None => self.happened.commands_kept += u32::from(!self.transmit.is_empty()),
+        }
+        word
     }
 
     /// The numbers of the transfer's and the flush's results, of those that have one.
     pub fn numbers(&self) -> [Option<u32>; 2] {
         [self.calls[0].number, self.calls[1].number]
+    }
+
+    /// Accesses of the transfer.
+    pub fn accesses(&self) -> usize {
+        self.calls[0].accesses
     }
 
     /// Whether transfer and flush have both answered Ok.
@@ -229,12 +277,16 @@ impl End {
         self.calls[1].number.is_some()
     }
 
-    /// The state in words: both result numbers or 255, flags, counts, 16 places for
-    /// the words of each queue, and the registers.
+    /// The state in words: both result numbers or 255, flags, counts of words, 16
+    /// places for the words of each queue, the registers, and the count of commands.
     pub fn state(&self) -> [u32; STATE] {
         let mut state = [0; STATE];
         let [transfer, flush] = self.numbers().map(|number| number.unwrap_or(255));
-        let [transmit, receive] = self.counts().map(|count| count as u32);
+        let queues: [Vec<u32>; 2] = [
+            self.words().collect(),
+            self.receive.iter().copied().collect(),
+        ];
+        let [transmit, receive] = queues.each_ref().map(|queue| queue.len() as u32);
         let front = [
             transfer,
             flush,
@@ -244,12 +296,11 @@ impl End {
             receive,
         ];
         state[..6].copy_from_slice(&front);
-        for (first, queue) in [(6, &self.transmit), (22, &self.receive)] {
-            for (place, word) in state[first..].iter_mut().zip(queue) {
-                *place = *word;
-            }
+        for (first, queue) in [6, 22].into_iter().zip(queues) {
+            state[first..][..queue.len()].copy_from_slice(&queue);
         }
-        state[38..].copy_from_slice(&self.registers);
+        state[38..][..REGISTERS].copy_from_slice(&self.registers);
+        state[STATE - 1] = self.commands() as u32;
         state
     }
 
@@ -271,14 +322,20 @@ impl End {
                 self.t &= !bit(11);
                 self.r &= !bit(12);
             }
-            TDR if self.transmit.len() == self.capacity() => {
-                self.t = true;
-                self.happened.lost_sent += 1;
+            TDR => {
+                self.happened.sent += 1;
+                self.queue(Queued::Word(value));
             }
-            TDR => self.transmit.push_back(value),
+            TCR => {
+                self.happened.commands += 1;
+                self.happened.commands_behind += u32::from(!self.transmit.is_empty());
+                self.queue(Queued::Command);
+                self.registers[TCR as usize / 4] = value;
+            }
             CR => {
                 let (rst, rtf, rrf) = (bit(1), bit(8), bit(9));
                 if rst || rtf {
+                    self.happened.commands_cleared += self.commands() as u32;
                     self.transmit.clear();
                 }
                 if rst || rrf {
@@ -291,6 +348,16 @@ impl End {
             }
             PARAM | FSR | RDR => {}
             _ => self.registers[address as usize / 4] = value,
+        }
+    }
+
+    /// A word or a command is queued, unless the queue is full.
+    fn queue(&mut self, queued: Queued) {
+        if self.transmit.len() == self.capacity() {
+            self.t = true;
+            self.happened.lost_sent += 1;
+        } else {
+            self.transmit.push_back(queued);
         }
     }
 
@@ -439,10 +506,10 @@ impl<W: Element> Bus<W> {
 
     fn clock(&mut self) {
         let [gate, antenna] = &mut self.ends;
-        let Some(word) = gate.transmit.pop_front() else {
+        let Some(word) = gate.send() else {
             return;
         };
-        let back = antenna.transmit.pop_front().unwrap_or_else(|| {
+        let back = antenna.send().unwrap_or_else(|| {
             antenna.t = true;
             antenna.happened.made_up += 1;
             0

@@ -47,12 +47,20 @@ pub enum Branch {
     LostAtGate,
     LostAtAntenna,
     MadeUp,
-    /// The exponent is 0.
+    /// A clock found a command at the gate, and no word behind it.
+    OnlyCommandAtGate,
+    /// The same at the antenna, where a word was made up.
+    OnlyCommandAtAntenna,
+    /// A recovery took a command out of the queue.
+    CommandCleared,
+    /// The exponent is 0, and not even the command was queued.
+    NeverCommands,
+    /// The exponent is 1: the command was queued, and no word.
     NeverSends,
 }
 
 impl Branch {
-    pub const ALL: [Self; 24] = [
+    pub const ALL: [Self; 28] = [
         Self::Refused,
         Self::Empty,
         Self::FrameSize,
@@ -76,6 +84,10 @@ impl Branch {
         Self::LostAtGate,
         Self::LostAtAntenna,
         Self::MadeUp,
+        Self::OnlyCommandAtGate,
+        Self::OnlyCommandAtAntenna,
+        Self::CommandCleared,
+        Self::NeverCommands,
         Self::NeverSends,
     ];
 }
@@ -150,5 +162,17 @@ fn end<W: Element>(bus: &Bus<W>, side: Side, reached: &mut BTreeSet<Branch>) {
     add(Branch::LostAtGate, lost && side == Side::Gate);
     add(Branch::LostAtAntenna, lost && side == Side::Antenna);
     add(Branch::MadeUp, happened.made_up > 0);
-    add(Branch::NeverSends, board.exponent == 0);
+    let kept = happened.commands_kept > 0;
+    add(Branch::OnlyCommandAtGate, kept && side == Side::Gate);
+    add(Branch::OnlyCommandAtAntenna, kept && side == Side::Antenna);
+    add(Branch::CommandCleared, happened.commands_cleared > 0);
+    // A poll for the command, and one for a word, were unready.
+    add(
+        Branch::NeverCommands,
+        board.exponent == 0 && end.accesses() > 3,
+    );
+    add(
+        Branch::NeverSends,
+        board.exponent == 1 && end.accesses() > 7 && happened.commands > 0,
+    );
 }

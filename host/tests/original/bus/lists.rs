@@ -64,7 +64,8 @@ fn board<W: Element>(random: &mut Random, lsb: bool, total: usize) -> Board<W> {
     let exponent = match random.below(64) {
         0 => [5, 6, 16, usize::MAX][random.below(4)],
         1 => 0,
-        other => 1 + other % 4,
+        2..5 => 1,
+        other => 2 + other % 3,
     };
     let shorter = match random.flag() {
         true => total,

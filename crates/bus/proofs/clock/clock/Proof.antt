@@ -20,7 +20,7 @@ returns c =
       antennaWords = refl;
       same =
           clock-nothing (a .gate-exponent) (a .antenna-exponent) (a .gate) (a .antenna)
-          (no-words (a .gate .port .transmit) (c .if1 .taken));
+          (no-words (a .gate .port) (c .if1 .taken));
     }
 
 arrive-requires-2 : tie.Need-arrive-requires-2
@@ -37,7 +37,7 @@ returns-2 c =
     let g = a .gate .port in
     let p = c .before .before .before .with-port in
     let q = c .with-port2 in
-    let ours = some-words (g .transmit) (c₁₅ .pre .gate .transmit) (c₈ .before .if1 .left) in
+    let ours = some-words g (c₁₅ .pre .gate .transmit) (c₈ .before .if1 .left) in
     record {
       gate = subst (λ (x : Port). Roomy x) (sym (p .ensures .3)) (c₄ .arrive .ensures .0);
       antenna = subst (λ (x : Port). Roomy x) (sym (q .ensures .3)) (c .before .arrive2 .ensures .0);
@@ -47,7 +47,7 @@ returns-2 c =
           clock-made-up (a .gate-exponent) (a .antenna-exponent) (a .gate) (a .antenna) (p .result) (q .result) (c₄ .arrive .result)
           (c .before .arrive2 .result) (p .ensures) (q .ensures)
           (front (queueOf (g .transmit))) (behind (queueOf (g .transmit))) ours
-          (no-words (a .antenna .port .transmit) (c₄ .before .before .if2 .taken))
+          (no-words (a .antenna .port) (c₄ .before .before .if2 .taken))
           (c₄ .arrive .ensures .1 ∙ ap (arrived (a .gate-exponent) 0) (c₈ .without-first .ensures .1))
           (c .before .arrive2 .ensures .1
           ∙ ap₂ (arrived (a .antenna-exponent)) (c .before .before .first .ensures) (c₄ .before .raise .ensures .1));
@@ -79,8 +79,8 @@ returns-3 c =
           clock-both (a .gate-exponent) (a .antenna-exponent) (a .gate) (a .antenna) (p .result) (q .result) (c₄ .arrive3 .result)
           (c .before .arrive4 .result) (p .ensures) (q .ensures)
           (front (queueOf (g .transmit))) (front (queueOf (h .transmit))) (behind (queueOf (g .transmit))) (behind (queueOf (h .transmit)))
-          (some-words (g .transmit) (c₁₆ .pre .gate .transmit) (c₉ .before .if1 .left))
-          (some-words (h .transmit) (c₁₆ .pre .antenna .transmit) (c₄ .before .before .before .if2 .left))
+          (some-words g (c₁₆ .pre .gate .transmit) (c₉ .before .if1 .left))
+          (some-words h (c₁₆ .pre .antenna .transmit) (c₄ .before .before .before .if2 .left))
           (c₄ .arrive3 .ensures .1 ∙ ap₂ (arrived (a .gate-exponent)) (c₄ .before .first2 .ensures) (c₉ .without-first .ensures .1))
           (c .before .arrive4 .ensures .1
           ∙ ap₂ (arrived (a .antenna-exponent)) (c .before .before .first3 .ensures)

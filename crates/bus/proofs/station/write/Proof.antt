@@ -23,14 +23,22 @@ returns-4 c =
     (c .before .before .before .before .place-of .ensures .0) (c .control-held .ensures))
 
 returns-5 : tie.Need-returns-5
-returns-5 c = rw (sym (c .before .before .role-of .ensures) ∙ c .enum-told5 .given .1)
+returns-5 c =
+    rw (sym (c .before .before .role-of .ensures) ∙ c .enum-told5 .given .1)
+    (ap
+    (λ (i : ℕ).
+    set (c .before .before .before .before .args .registers .now) i (c .before .before .before .before .args .value))
+    (c .before .before .before .place-of .ensures .0))
 
 returns-6 : tie.Need-returns-6
 returns-6 c = rw (sym (c .before .before .role-of .ensures) ∙ c .enum-told6 .given .1)
 
 returns-7 : tie.Need-returns-7
-returns-7 c =
-    rw (sym (c .before .before .role-of .ensures) ∙ c .enum-told7 .given .1)
+returns-7 c = rw (sym (c .before .before .role-of .ensures) ∙ c .enum-told7 .given .1)
+
+returns-8 : tie.Need-returns-8
+returns-8 c =
+    rw (sym (c .before .before .role-of .ensures) ∙ c .enum-told8 .given .1)
     (ap
     (λ (i : ℕ).
     set (c .before .before .before .before .args .registers .now) i (c .before .before .before .before .args .value))
@@ -54,10 +62,14 @@ write-spec =
     (λ c. search needs)
     (λ c. search needs)
     (λ c. search needs)
+    (λ c. search needs)
+    (λ c. search needs)
+    (λ c. search needs)
     returns
     returns-2
     returns-3
     returns-4
     returns-5
     returns-6
-    returns-7)
+    returns-7
+    returns-8)

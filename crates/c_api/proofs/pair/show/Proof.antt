@@ -56,8 +56,8 @@ same-length c = c .before .loop .inv .1
 returns : tie.Need-returns Inv-loop μ-loop
 returns c = let l = c .before .loop in
     let a = c .before .before .before .before .args in
-    shown (l .i) 136 (stateWords (stateOf (a .gate)) ++ stateWords (stateOf (a .antenna))) (a .state .now) (l .state)
-    (length-both (stateOf (a .gate)) (stateOf (a .antenna))) (omega arith) (λ (h : l .i < 136). omega arith) (l .inv .2)
+    shown (l .i) 138 (stateWords (stateOf (a .gate)) ++ stateWords (stateOf (a .antenna))) (a .state .now) (l .state)
+    (length-both (stateOf (a .gate)) (stateOf (a .antenna))) (omega arith) (λ (h : l .i < 138). omega arith) (l .inv .2)
 
 pub show-spec : {M : Type 1} → statement M
 show-spec =

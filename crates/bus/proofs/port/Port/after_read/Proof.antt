@@ -20,15 +20,19 @@ returns-5 : tie.Need-returns-5
 returns-5 c = (c .before .before .pre, rw (c .enum-told5 .given .1))
 
 returns-6 : tie.Need-returns-6
-returns-6 c = (c .received .ensures .0, rw (c .before .enum-told6 .given .1) (c .received .ensures .1))
+returns-6 c = (c .before .before .pre, rw (c .enum-told6 .given .1))
 
 returns-7 : tie.Need-returns-7
-returns-7 c = (c .before .before .pre, rw (c .enum-told7 .given .1))
+returns-7 c = (c .received .ensures .0, rw (c .before .enum-told7 .given .1) (c .received .ensures .1))
+
+returns-8 : tie.Need-returns-8
+returns-8 c = (c .before .before .pre, rw (c .enum-told8 .given .1))
 
 pub after-read-spec : {M : Type 1} → statement M
 after-read-spec =
     tie.close
     (tie.spec
+    (λ c. search needs)
     (λ c. search needs)
     (λ c. search needs)
     (λ c. search needs)
@@ -43,4 +47,5 @@ after-read-spec =
     returns-4
     returns-5
     returns-6
-    returns-7)
+    returns-7
+    returns-8)

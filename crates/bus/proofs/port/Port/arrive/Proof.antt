@@ -4,7 +4,7 @@ use mathlib.Core.Path.{sym, ap, _∙_}
 use mathlib.Core.List.{List}
 use Prim.Native.Nat.{ℕ}
 use Rattle.agreement.specs.End.{queues}
-use Rattle.bus.specs.View.{queueOf, wireOf}
+use Rattle.bus.specs.View.{wireOf}
 use Rattle.bus.proofs.HeldLaws.{room}
 use borrow.Author.Needs.{needs}
 use Rattle.bus.proofs.port.Port.arrive.Statement.{statement}
@@ -25,9 +25,13 @@ returns-2 : tie.Need-returns-2
 returns-2 c =
     let p = c .before .before .before .before .before .args .self in
     let r = c .push .ensures in (
-      record { receive = r .0; transmit = c .before .before .before .before .before .pre .1 .transmit },
+      record {
+        transmit = c .before .before .before .before .before .pre .1 .transmit;
+        receive = r .0;
+        taken = c .before .before .before .before .before .pre .1 .taken;
+      },
       rw (sym (c .before .before .before .is-full .ensures) ∙ c .before .before .if1 .left)
-          (ap (λ (l : List ℕ). queues (queueOf (p .transmit)) l (wireOf p)) (r .1)),
+          (ap (λ (l : List ℕ). queues (wireOf p .transmit) l (wireOf p)) (r .1)),
     )
 
 pub arrive-spec : {M : Type 1} → statement M

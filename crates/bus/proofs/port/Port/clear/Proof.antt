@@ -1,6 +1,6 @@
 -- `Port::clear` meets its contract.
 -- Assumes nothing.
-use Rattle.bus.specs.View.{queueOf}
+use Rattle.bus.specs.View.{wireOf}
 use lib.Dec.{eqb}
 use Prim.Native.Nat.{ℕ}
 use mathlib.Core.Bool.{Bool, false, cond}
@@ -17,8 +17,9 @@ returns c =
       record {
         transmit = c .before .before .before .before .before .before .pre .transmit;
         receive = c .before .before .before .before .before .before .pre .receive;
+        taken = c .before .before .before .before .before .before .pre .taken;
       },
-      ap₂ (λ (t r : Bool). record { transmit = queueOf (p .transmit); receive = queueOf (p .receive); t = t; r = r }) l m,
+      ap₂ (λ (t r : Bool). record { transmit = wireOf p .transmit; receive = wireOf p .receive; t = t; r = r }) l m,
     )
 
 pub clear-spec : {M : Type 1} → statement M

@@ -29,18 +29,17 @@ returns-2 c =
 
 returns-3 : tie.Need-returns-3
 returns-3 c =
-    let c₆ = c .before .before .before .before .before .before in
-    let p = c₆ .before .before .args .self in
-    let room = c₆ .before .before .pre .1 in
-    let sent = length-take-le (p .transmit .count) (p .transmit .words) (omega (arith, room .transmit .within, room .transmit .places)) in
+    let c₅ = c .before .before .before .before .before in
+    let p = c₅ .before .before .args .self in
+    let room = c₅ .before .before .pre .1 in
     let got = length-take-le (p .receive .count) (p .receive .words) (omega (arith, room .receive .within, room .receive .places)) in
-    rw (c₆ .enum-told3 .given .1)
+    rw (c₅ .enum-told3 .given .1)
     (c .set7 .ensures
     ∙ ap₂ (setField (Fsr RXCOUNT)) (sym got)
-    (c .before .before .set6 .ensures ∙ ap (λ (n : ℕ). setField (Fsr TXCOUNT) n 0) (sym sent)))
+    (c .before .before .set6 .ensures ∙ ap (λ (n : ℕ). setField (Fsr TXCOUNT) n 0) (c .before .before .before .taken .ensures .0)))
 
-returns-6 : tie.Need-returns-6
-returns-6 c = rw (c .before .before .enum-told6 .given .1) (c .first .ensures)
+returns-7 : tie.Need-returns-7
+returns-7 c = rw (c .before .before .enum-told7 .given .1) (c .first .ensures)
 
 pub show-spec : {M : Type 1} → statement M
 show-spec =
@@ -59,10 +58,12 @@ show-spec =
     (λ c κs. search needs)
     (λ c κs. search needs)
     (λ c. search needs)
-    (λ c. search needs)
     (λ c κs. search needs)
     (λ c. search needs)
     (λ c κs. search needs)
+    (λ c. search needs)
+    (λ c κs. search needs)
+    (λ c. search needs)
     (λ c. search needs)
     (λ c. search needs)
     (λ c. search needs)
@@ -73,5 +74,6 @@ show-spec =
     returns-3
     (λ c. search needs)
     (λ c. search needs)
-    returns-6
+    (λ c. search needs)
+    returns-7
     (λ c. search needs))
