@@ -24,9 +24,12 @@ pub const BUSLOG_OUTPUT: usize = 131_072;
 
 /// Words of an end's state: the result numbers of its transfer and its flush, or 255;
 /// the flags T and R; the counts of words to be sent and to be read; 16 places for the
-/// words of each, 0 where there is none; the 30 registers by their offset divided by 4;
-/// the count of commands, which stand before the words to be sent.
-pub const END_STATE: usize = 69;
+/// words of each, 0 where there is none; the 30 registers by their offset divided by 4.
+pub const END_STATE: usize = 68;
+
+/// Words of both ends' states: the gate's, the antenna's, and behind them the counts of
+/// commands that stand before the words to be sent, at the gate and at the antenna.
+pub const PAIR_STATE: usize = 2 * END_STATE + 2;
 
 c_functions! {
     /// The TCR word of a command.
@@ -153,7 +156,8 @@ c_functions_by_width! {
 
     /// Lets events happen to a gate and an antenna: each byte is an [`Event`], modulo 9.
     /// `inplace` has a bit for each end, the gate's lowest. The ends' states go to the front
-    /// of `state`, [`END_STATE`] words each, the gate's first; what has no room is dropped.
+    /// of `state`, [`PAIR_STATE`] words; what has no room is dropped. With an exponent of 0 or
+    /// 1 an end never sends a word, since its command takes a place of the transmit FIFO.
     ///
     /// At 9 all is as found: `state` then has no ends, and must not be read as if it had.
     /// Zeros, say, would read as Ok twice.

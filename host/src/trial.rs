@@ -1,7 +1,7 @@
 //! Trials: two boards on one bus, and a list of events.
 
 use crate::error::{Error, answer};
-use crate::raw::{self, END_STATE, Event};
+use crate::raw::{self, END_STATE, Event, PAIR_STATE};
 use crate::{Element, Lpspi};
 
 /// What an end of the bus starts with.
@@ -11,7 +11,8 @@ pub struct Board<'a, W> {
     pub driver: Lpspi,
     /// Whether `read` is sent as well. `write` does not count then.
     pub in_place: bool,
-    /// Both FIFOs have room for so many words as a power of 2, at most 4.
+    /// Both FIFOs have so many places as a power of 2, at most 4. A command takes one: with
+    /// 0 or 1 the board never sends a word.
     pub exponent: usize,
     /// Received into.
     pub read: &'a mut [W],
@@ -21,17 +22,20 @@ pub struct Board<'a, W> {
 
 /// The state of an end after a list of events.
 #[derive(Debug, Clone, Copy, PartialEq, Eq)]
-pub struct EndState([u32; END_STATE]);
+pub struct EndState {
+    words: [u32; END_STATE],
+    commands: u32,
+}
 
 impl EndState {
     /// What the transfer has answered, if it has.
     pub fn transfer(&self) -> Option<Result<(), Error>> {
-        answered(self.0[0])
+        answered(self.words[0])
     }
 
     /// What the flush has answered, if it has.
     pub fn flush(&self) -> Option<Result<(), Error>> {
-        answered(self.0[1])
+        answered(self.words[1])
     }
 
     /// Whether transfer and flush have both answered Ok.
@@ -41,33 +45,33 @@ impl EndState {
 
     /// The flag T: a transmit error.
     pub fn transmit_error(&self) -> bool {
-        self.0[2] == 1
+        self.words[2] == 1
     }
 
     /// The flag R: a receive error.
     pub fn receive_error(&self) -> bool {
-        self.0[3] == 1
+        self.words[3] == 1
     }
 
     /// The commands still queued: they stand before the words to be sent, and leave
     /// with the first.
     pub fn commands(&self) -> usize {
-        self.0[END_STATE - 1] as usize
+        self.commands as usize
     }
 
     /// The words still to be sent, in their order.
     pub fn to_send(&self) -> &[u32] {
-        &self.0[6..][..self.0[4] as usize]
+        &self.words[6..][..self.words[4] as usize]
     }
 
     /// The words that arrived and are still to be read, in their order.
     pub fn to_read(&self) -> &[u32] {
-        &self.0[22..][..self.0[5] as usize]
+        &self.words[22..][..self.words[5] as usize]
     }
 
     /// The 30 registers, by their offset divided by 4.
     pub fn registers(&self) -> &[u32] {
-        &self.0[38..END_STATE - 1]
+        &self.words[38..]
     }
 }
 
@@ -95,7 +99,7 @@ pub fn trial<W: Element>(
     antenna: Board<W>,
     events: &[Event],
 ) -> Result<Trial, Error> {
-    let mut states = [[0; END_STATE]; 2];
+    let mut state = [0; PAIR_STATE];
     let number = raw::trial(
         gate.driver.number(),
         antenna.driver.number(),
@@ -107,8 +111,13 @@ pub fn trial<W: Element>(
         antenna.read,
         antenna.write,
         Event::numbers(events),
-        states.as_flattened_mut(),
+        &mut state,
     );
-    let [gate, antenna] = states.map(EndState);
+    let (ends, commands) = state.split_at(2 * END_STATE);
+    let end = |place: usize| EndState {
+        words: ends.as_chunks().0[place],
+        commands: commands[place],
+    };
+    let (gate, antenna) = (end(0), end(1));
     answer(number, Trial { gate, antenna })
 }

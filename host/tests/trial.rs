@@ -1,6 +1,6 @@
 //! Trials of two boards on one bus: what the ends show, and what a refusal leaves.
 
-use lpspi_host::raw::{self, END_STATE};
+use lpspi_host::raw::{self, END_STATE, PAIR_STATE};
 use lpspi_host::{
     BitOrder, Board, Direction, Element, EndState, Error, Event, Lpspi, LpspiError, Trial, trial,
 };
@@ -215,13 +215,13 @@ fn left<W: Element + Copy + PartialEq + Debug>(
 
 fn states<W: Element + Copy + PartialEq + Debug>(filled: [W; 2]) {
     use BitOrder::{Lsb, Msb};
-    let both = 2 * END_STATE;
+    let both = PAIR_STATE;
     let (number, whole) = left(filled, [Msb; 2], [0, 4], 3, both + 3);
     assert_eq!(number, 0);
     assert!(!whole[..both].contains(&FOUND));
     assert_eq!(whole[both..], [FOUND; 3]);
 
-    for room in [0, 1, END_STATE, both - 1, both, both + 3] {
+    for room in [0, 1, END_STATE, 2 * END_STATE, both - 1, both, both + 3] {
         let given = left(filled, [Msb; 2], [0, 4], 3, room);
         assert_eq!(given, (0, whole[..room].to_vec()));
 

@@ -14,7 +14,8 @@ use Rattle.words.specs.Word.{laid}
 use Rattle.words.proofs.WordLaws.{Elements}
 use Rattle.words.proofs.BufferLaws.{tabulate-same}
 use Rattle.manual.specs.declared.Register.the-variants.{TCR}
-use Rattle.sequences.specs.declared.access.Access.the-variants.{Write, Send, Receive}
+use Rattle.sequences.specs.declared.access.Access.the-variants.{Write, Send, Receive, Done}
+use Rattle.sequences.specs.declared.access.Ending.the-variants.{Ok}
 use Rattle.machine.specs.Transfer.{dueAccess}
 use Rattle.agreement.specs.declared.event.Event.{Event}
 use Rattle.agreement.specs.declared.event.Side.the-variants.{Gate, Antenna}
@@ -23,8 +24,8 @@ use Rattle.agreement.specs.End.{End}
 use Rattle.agreement.specs.Events.{Pair, happened, after, freshPair, pairAfter}
 use Rattle.agreement.specs.Tally.{nothing, tally}
 use Rattle.agreement.specs.Agreement.{OkTwice, bufferOf, Holds, Finish, Agreement, seen}
-use Rattle.agreement.proofs.EndFacts.{own, ok-facts, ok-unhurt, ok-empty, ok-received}
-use Rattle.agreement.proofs.EndFacts.{receives-below, sends-below, command-alone}
+use Rattle.agreement.proofs.EndFacts.{own, ok-unhurt, ok-empty, ok-received}
+use Rattle.agreement.proofs.EndFacts.{receives-below, sends-below, command-alone, shallow-empty}
 use Rattle.agreement.proofs.PairFacts.{Both, both-after}
 use Rattle.agreement.proofs.FinishFacts.{finish}
 use Rattle.agreement.proofs.WordLists.{nil-of}
@@ -190,20 +191,21 @@ module _ (g a : Start) (f : Fit g a) (vs : List Event) where
       (x .transfer .work) (x .transfer .reset) (x .flush) (x .received) (x .wire) v (k .1 .antenna .now) h in
       (nil-of (x .wire .transmit) (r .0), r .1)
 
-  -- THE BOUND OF (c) IS SHARP: an end with an exponent of at most 1 has Ok twice only where there is no word to send
-  pub gate-shallow : g .board .exponent ≤ 1 → OkTwice (seen (after-all .gate)) → frameWords g ≡ 0
-  gate-shallow h ok =
+  -- THE BOUND OF (c) IS SHARP: with an exponent of at most 1 a transfer answers Ok only where there is no word to send
+  pub gate-shallow : g .board .exponent ≤ 1 → dueAccess (after-all .gate .transfer) ≡ Done Ok → frameWords g ≡ 0
+  gate-shallow l h =
       let k = known in
-      let r =
-      ok-facts n accepts (job g) (own (job a)) (k .0) (tally Antenna g a vs .madeUp) (tally Gate g a vs) (after-all .gate)
-      (k .1 .gate) ok in
-      sym (r .1) ∙ r .0 .shallow h
+      let x = after-all .gate in
+      shallow-empty n accepts (job g) (own (job a)) (k .0) (k .0) (tally Antenna g a vs .madeUp) (tally Gate g a vs)
+      (x .transfer .phase) (x .transfer .work) (x .transfer .reset) (x .flush) (x .received) (x .wire) (k .1 .gate .now) h l
 
-  pub antenna-shallow : a .board .exponent ≤ 1 → OkTwice (seen (after-all .antenna)) → frameWords a ≡ 0
-  antenna-shallow h ok =
+  pub antenna-shallow : a .board .exponent ≤ 1 → dueAccess (after-all .antenna .transfer) ≡ Done Ok → frameWords a ≡ 0
+  antenna-shallow l h =
       let k = known in
-      let r = ok-facts n accepts (job a) (own (job g)) (k .0) 0 (tally Antenna g a vs) (after-all .antenna) (k .1 .antenna) ok in
-      same-count g a f ∙ sym (r .1) ∙ r .0 .shallow h
+      let x = after-all .antenna in
+      same-count g a f
+      ∙ shallow-empty n accepts (job a) (own (job g)) (k .0) (k .0) 0 (tally Antenna g a vs) (x .transfer .phase)
+      (x .transfer .work) (x .transfer .reset) (x .flush) (x .received) (x .wire) (k .1 .antenna .now) h l
 
 -- (c)
 pub finishes : (g a : Start) → unfit g a ≡ false → (vs : List Event)

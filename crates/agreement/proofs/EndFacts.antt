@@ -146,7 +146,7 @@ module _ (n : ℕ) (accepts : Bool) (j : Job) (other : ℕ → ℕ) where
   NowFlush FlushCounts t c m τ k rs w = Core t c m τ k rs w × (k .sent ≡ n) × (length rs ≡ n)
   NowFlush (Flushed Ok) t c m τ k rs w = Core t c m τ k rs w × (k .sent ≡ n) × (length rs ≡ n) × (length (w .transmit) ≡ 0)
   NowFlush (Flushed (Err FrameSize)) t c m τ k rs w = ⊥
-  NowFlush (Flushed (Err (Fifo d))) t c m τ k rs w = 0 < τ .flags
+  NowFlush (Flushed (Err (Fifo d))) t c m τ k rs w = Core t c m τ k rs w × (k .sent ≡ n) × (length rs ≡ n) × (0 < τ .flags)
   NowFlush (Flushed Stopped) t c m τ k rs w = ⊥
   NowFlush (Flushed Limits) t c m τ k rs w = ⊥
   NowFlush (Flushed ZeroClock) t c m τ k rs w = ⊥
@@ -467,11 +467,11 @@ module _ (n : ℕ) (accepts : Bool) (j : Job) (other : ℕ → ℕ) where
           (cond (eqb (readField (Sr TEF) v) 1) (Flushed (Err (Fifo Tx)))
           (cond (eqb (readField (Sr MBF) v) 1) FlushStatus FlushSizes))
           k rs w
-          (λ h. B .setR (sym (shown-r y w g) ∙ h))
+          (λ h. (N .0, N .1, N .2, B .setR (sym (shown-r y w g) ∙ h)))
           (λ h.
           now-flush (eqb (readField (Sr TEF) v) 1) (Flushed (Err (Fifo Tx)))
           (cond (eqb (readField (Sr MBF) v) 1) FlushStatus FlushSizes) k rs w
-          (λ h′. B .setT (sym (shown-t y w g) ∙ h′))
+          (λ h′. (N .0, N .1, N .2, B .setT (sym (shown-t y w g) ∙ h′)))
           (λ h′. now-flush (eqb (readField (Sr MBF) v) 1) FlushStatus FlushSizes k rs w (λ h″. N) (λ h″. N)));
     }
     keep-flush y k q FlushSizes rs w g B N = record { base = B; now = N }
@@ -628,7 +628,7 @@ module _ (n : ℕ) (accepts : Bool) (j : Job) (other : ℕ → ℕ) where
   flush-stays FlushCounts g a b N = (g (N .0), N .1, N .2)
   flush-stays (Flushed Ok) g a b N = (g (N .0), N .1, N .2, omega (arith, N .3))
   flush-stays (Flushed (Err FrameSize)) g a b N = absurd N
-  flush-stays (Flushed (Err (Fifo d))) g a b N = omega (arith, N)
+  flush-stays (Flushed (Err (Fifo d))) g a b N = (g (N .0), N .1, N .2, omega (arith, N .3))
   flush-stays (Flushed Stopped) g a b N = absurd N
   flush-stays (Flushed Limits) g a b N = absurd N
   flush-stays (Flushed ZeroClock) g a b N = absurd N
@@ -719,6 +719,26 @@ module _ (n : ℕ) (accepts : Bool) (j : Job) (other : ℕ → ℕ) where
   command-alone t c m τ Receive k q f rs w v N h = absurd (not-written (sym h))
   command-alone t c m τ (Recovery d) k q f rs w v N h = absurd (subst (λ (x : Access). Quiet x) h (recovery-quiet q))
   command-alone t c m τ (Ended x) k q f rs w v N h = absurd (done-writes h)
+
+  -- A TRANSFER HAS ANSWERED OK only where all words were sent, and so never with an exponent of at most 1 where there is one
+  flush-sent : (t c m : ℕ) (τ : Tally) (k : Work) (f : Flush) (rs : List ℕ) (w : Wire) → NowFlush f t c m τ k rs w
+      → (k .sent ≡ n) × (j .exponent ≤ 1 → k .sent ≡ 0)
+  flush-sent t c m τ k FlushStatus rs w N = (N .1, N .0 .shallow)
+  flush-sent t c m τ k FlushSizes rs w N = (N .1, N .0 .shallow)
+  flush-sent t c m τ k FlushCounts rs w N = (N .1, N .0 .shallow)
+  flush-sent t c m τ k (Flushed Ok) rs w N = (N .1, N .0 .shallow)
+  flush-sent t c m τ k (Flushed (Err FrameSize)) rs w N = absurd N
+  flush-sent t c m τ k (Flushed (Err (Fifo d))) rs w N = (N .1, N .0 .shallow)
+  flush-sent t c m τ k (Flushed Stopped) rs w N = absurd N
+  flush-sent t c m τ k (Flushed Limits) rs w N = absurd N
+  flush-sent t c m τ k (Flushed ZeroClock) rs w N = absurd N
+  flush-sent t c m τ k (Flushed FifoExponent) rs w N = absurd N
+
+  pub shallow-empty : (t c m : ℕ) (τ : Tally) (p : Stage) (k : Work) (q : Sequence) (f : Flush) (rs : List ℕ) (w : Wire)
+      → Now p f t c m τ k rs w → dueAccess (at p k q) ≡ Done Ok → j .exponent ≤ 1 → n ≡ 0
+  shallow-empty t c m τ p k q f rs w N h l =
+      let r = flush-sent t c m τ k f rs w (subst (λ (x : Stage). Now x f t c m τ k rs w) (done-phase p k q Ok h) N) in
+      sym (r .0) ∙ r .1 l
 
   -- AT FRESH: empty, accepted or refused
   pub fresh-core : (m : ℕ) (k : Work) → accepts ≡ true → k .send ≡ n → k .receive ≡ n → k .sent ≡ 0 → k .received ≡ 0

@@ -409,7 +409,7 @@ module _ (n : ℕ) (accepts : Bool) (j : Job) (other : ℕ → ℕ) (small-e : j
     flush-leads FlushCounts k q rs w g B N = flush-counts k q rs w g B (N .0) (N .1) (N .2)
     flush-leads (Flushed Ok) k q rs w g B N = here (end (at (Ended Ok) k q) (Flushed Ok) rs w g) (over (refl, refl))
     flush-leads (Flushed (Err FrameSize)) k q rs w g B N = absurd N
-    flush-leads (Flushed (Err (Fifo d))) k q rs w g B N = absurd (omega (arith, N))
+    flush-leads (Flushed (Err (Fifo d))) k q rs w g B N = absurd (omega (arith, N .3))
     flush-leads (Flushed Stopped) k q rs w g B N = absurd N
     flush-leads (Flushed Limits) k q rs w g B N = absurd N
     flush-leads (Flushed ZeroClock) k q rs w g B N = absurd N

@@ -14,7 +14,7 @@ use Rattle.agreement.specs.End.{Item, Wire, queues, raised, full, wordsI
 use Rattle.agreement.specs.Events.{rewired}
 use Rattle.agreement.specs.Tally.{Tally, noted}
 use Rattle.agreement.proofs.WordLists.{from, length-snoc, snoc-is, uncons}
-use Rattle.agreement.proofs.QueueLaws.{words-most, past-words, past-less, past-front, only-words}
+use Rattle.agreement.proofs.QueueLaws.{past-words, past-less, past-front, only-words}
 use Rattle.agreement.proofs.EndFacts.{own, Core, Now, Base, Good, now-stays}
 
 module _ (n : ℕ) (accepts : Bool) (j : Job) (other : ℕ → ℕ) (c m : ℕ) (τ : Tally) (x : End) where

@@ -38,7 +38,7 @@ pub data Item : Type 0 where
   Command : Item
   Word : ℕ → Item
 
--- "transmit and receive queues of 2^e words, flags T and R": what is first in a queue stands first
+-- "transmit and receive queues of 2^e words, flags T and R": the next to leave a queue stands first
 pub record Wire : Type 0 where
   pub transmit : List Item
   pub receive : List ℕ
@@ -62,7 +62,7 @@ lowered t r w = record { transmit = w .transmit; receive = w .receive; t = cond 
 abbrev pub full : {A : Type 0} → ℕ → List A → Bool
 full e queue = leb (2 ^ e) (length queue)
 
--- TDR and TCR append; onto a full queue: lost, T set (a command never is: `Demand3.gate-command-first`)
+-- TDR and TCR append; onto a full queue: lost, T set (no command ever is: `Demand3.gate-command-first`, `antenna-command-first`)
 abbrev pub sentInto : ℕ → Item → Wire → Wire
 sentInto e x w = cond (full e (w .transmit)) (raised Tx w) (queues (w .transmit ++ (x ∷ [])) (w .receive) w)
 
@@ -78,7 +78,7 @@ pastWord [] = []
 pastWord (Command ∷ queue) = pastWord queue
 pastWord (Word v ∷ queue) = queue
 
--- that, of an end
+-- queues and flags once the first word to be sent has left
 abbrev pub wordGone : Wire → Wire
 wordGone w = queues (pastWord (w .transmit)) (w .receive) w
 

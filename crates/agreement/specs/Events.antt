@@ -30,7 +30,8 @@ rewired f x = end (x .transfer) (x .flush) (x .received) (f (x .wire)) (x .regis
 
 module _ (g a : Job) where
   -- Clock: nothing if the gate has no word to send. Else its first word goes to the antenna; the antenna's first, or a made-up 0 with the
-  -- antenna's T set, goes to the gate; an antenna whose queue holds only a command underruns, "the command staying". By the words queued
+  -- antenna's T set, goes to the gate. An antenna whose queue holds only a command underruns, "the command staying". The two lists are the
+  -- words queued at the gate and at the antenna
   unfoldable pub clockedBy : List ℕ → List ℕ → Pair → Pair
   clockedBy [] theirs p = p
   clockedBy (v ∷ ours) [] p =

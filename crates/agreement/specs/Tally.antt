@@ -44,7 +44,7 @@ abbrev pub waiting : List ℕ → Bool
 waiting [] = false
 waiting (v ∷ words) = true
 
--- a write to TDR, or to TCR, onto a full queue
+-- a write to TDR onto a full queue. A command onto one would count as a lost word; there is none (`EndFacts.no-overrun`)
 abbrev pub overrunBy : Role → ℕ → Wire → Bool
 overrunBy sizes e w = false
 overrunBy status e w = false

@@ -26,7 +26,6 @@ use Rattle.agreement.specs.End.{Wire, raised, wordsIn, wordGone, arrived, front
 use Rattle.agreement.specs.End.{End, end, firstDue, endAccess, endAfter, stepped}
 use Rattle.agreement.specs.Events.{Pair, pair, rewired, clockedBy, happened}
 use Rattle.agreement.proofs.WordLists.{false-true}
-use Rattle.bus.specs.declared.fifo.Fifo.{Fifo}
 use Rattle.bus.specs.declared.port.Port.{Port}
 use Rattle.bus.specs.declared.station.Link.{Link}
 use Rattle.bus.specs.declared.station.Station.{Station}

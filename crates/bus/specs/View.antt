@@ -14,7 +14,8 @@ use Rattle.bus.specs.declared.trial.EndState.{EndState}
 abbrev pub queueOf : Fifo → List ℕ
 queueOf f = take (f .count) (f .words)
 
--- a transmit queue: so many commands, and words behind them. No other is needed (`Demand3.gate-command-first`)
+-- a transmit queue: so many commands, and words behind them. No other comes up: a command is only ever written into an empty queue
+-- (`Demand3.gate-command-first`, `antenna-command-first`)
 abbrev pub queued : ℕ → List ℕ → List Item
 queued zero [] = []
 queued zero (v ∷ words) = Word v ∷ queued zero words

@@ -2,8 +2,9 @@
 //
 // What each type of the code is in the definitions (agreement `End`, `Events`, `Start`, `Agreement`; the views are bus `View` and `Held`):
 //
-//   Fifo        a queue, a list of words                              queueOf
-//   Port        Wire: both queues and the flags T and R               wireOf
+//   Fifo        the words of a queue                                  queueOf
+//   Port        Wire: both queues (commands stand before the words    wireOf, queued
+//               to be sent) and the flags T and R
 //   Station     End, but for received words and registers             endOf; as a trial shows it stationSeen
 //   Stations    Pair: the gate's end and the antenna's                pairOf
 //   Link        Job: what an end goes by                              linkJob

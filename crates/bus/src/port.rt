@@ -30,7 +30,7 @@ pub struct Port {
     pub r: bool,
 }
 
-// The words that a FIFO of that exponent holds.
+// The places of a FIFO of that exponent.
 fn capacity(exponent: usize) -> usize
     requires { ⌜ exponent ≤ 4 ⌝ }
     ensures { λ r. ⌜ (r ≡ 2 ^ exponent) × (r ≤ 16) ⌝ }
@@ -287,10 +287,10 @@ impl Port {
         if Field::Cr(Cr::RST).read(control) == 1 {
             return Port::new();
         }
-        let flushed = Field::Cr(Cr::RTF).read(control) == 1;
+        let empty = Field::Cr(Cr::RTF).read(control) == 1;
         Port {
-            commands: none_if(flushed, self.commands),
-            transmit: emptied_if(flushed, transmit),
+            commands: none_if(empty, self.commands),
+            transmit: emptied_if(empty, transmit),
             receive: emptied_if(Field::Cr(Cr::RRF).read(control) == 1, receive),
             t: self.t,
             r: self.r,

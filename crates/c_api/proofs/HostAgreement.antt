@@ -1,13 +1,12 @@
 -- Demand 3 of what a host is left with by `lpspi_trial_*`: where the number is 0, the read buffers that it lent and both ends satisfy
 -- `Agreement`; and what a host may conclude from the words of the states alone.
 -- Assumes nothing.
-use Prim.Native.Nat.{ℕ, _+_, _/_, _<_, _≤_}
+use Prim.Native.Nat.{ℕ, _+_, _-_, _/_, _<_, _≤_}
 use mathlib.Core.Bool.{Bool, true, false, cond, _||_}
-use mathlib.Core.List.{List, _++_}
-use mathlib.Core.Path.{_≡_, refl, sym, ap, ap₂, _∙_}
+use mathlib.Core.List.{List}
+use mathlib.Core.Path.{_≡_, refl, sym, ap, _∙_}
 use native.Mathlib.Omega.{arith}
-use lib.ListN.{length, getD, length-append, List·getD-append}
-use lib.Seq.{getD-append-add}
+use lib.ListN.{length, getD}
 use Rattle.words.specs.declared.width.Width.{Width}
 use Rattle.words.specs.declared.width.Width.the-variants.{U8, U16, U32}
 use Rattle.words.specs.Width.{widthBits}
@@ -18,9 +17,9 @@ use Rattle.agreement.specs.Agreement.{Seen, OkTwice, Holds, Agreement}
 use Rattle.agreement.specs.Codes.{eventsOf}
 use Rattle.agreement.proofs.Demand3.{agreement}
 use Rattle.bus.specs.Trial.{startOf, unpaired, TrialLeft, trialOf}
-use Rattle.c_api.specs.HostBus.{boardOf, stateWords, stateLeft, HostTrial, trialBy}
+use Rattle.c_api.specs.HostBus.{boardOf, stateWords, commandsIn, pairWords, stateLeft, HostTrial, trialBy}
 use Rattle.c_api.proofs.AnswerLaws.{ok-of-numbers}
-use Rattle.c_api.proofs.PairLaws.{length-state}
+use Rattle.c_api.proofs.PairLaws.{word-gate, word-antenna, word-gate-commands, word-antenna-commands, length-both}
 
 -- boards of one width that are not refused fit
 fits-at : (w : Width) (b : Bool) → (unequal (widthBits w) (widthBits w) || b) ≡ false → b ≡ false
@@ -65,45 +64,50 @@ module _ (w : Width) (gateDriver antennaDriver inplace gateExponent antennaExpon
       (small (gateStart .board .inplace) gateRead gateWrite gr gw)
       (small (antennaStart .board .inplace) antennaRead antennaWrite ar aw) (eventsOf events))
 
-  -- THE STATES: where the number is 0 and 138 words were lent, word i of the gate's 69 and of the antenna's
-  module _ (room : 138 ≤ length state) (zero-number : left .number ≡ 0) where
+  -- THE STATES: where the number is 0 and 136 words were lent, word i of the gate's 68 and of the antenna's
+  module _ (room : 136 ≤ length state) (zero-number : left .number ≡ 0) where
     abbrev g : Seen
     g = outcome .gate
 
     abbrev a : Seen
     a = outcome .antenna
 
-    all-words : length (stateWords g ++ stateWords a) ≡ 138
-    all-words = length-append (stateWords g) (stateWords a) ∙ ap₂ _+_ (length-state g) (length-state a)
-
-    state-at : (i : ℕ) → i < 138 → getD (left .state) i 0 ≡ getD (stateWords g ++ stateWords a) i 0
-    state-at i l =
+    state-at : (i : ℕ) → i < 138 → i < length state → getD (left .state) i 0 ≡ getD (pairWords g a) i 0
+    state-at i l h =
         ap (λ (n : ℕ). getD (stateLeft n g a state) i 0) zero-number
-        ∙ laid-at (stateWords g ++ stateWords a) state i (omega (arith, all-words)) (omega arith)
+        ∙ laid-at (pairWords g a) state i (omega (arith, length-both g a)) h
 
-    pub gate-state : (i : ℕ) → i < 69 → getD (left .state) i 0 ≡ getD (stateWords g) i 0
-    gate-state i l = state-at i (omega arith) ∙ List·getD-append (stateWords g) (stateWords a) 0 i (omega (arith, length-state g))
+    pub gate-state : (i : ℕ) → i < 68 → getD (left .state) i 0 ≡ getD (stateWords g) i 0
+    gate-state i l = state-at i (omega arith) (omega arith) ∙ sym (word-gate g a i l)
 
-    pub antenna-state : (i : ℕ) → i < 69 → getD (left .state) (69 + i) 0 ≡ getD (stateWords a) i 0
+    pub antenna-state : (i : ℕ) → i < 68 → getD (left .state) (68 + i) 0 ≡ getD (stateWords a) i 0
     antenna-state i l =
-        state-at (69 + i) (omega arith)
-        ∙ ap (λ (n : ℕ). getD (stateWords g ++ stateWords a) (n + i) 0) (sym (length-state g))
-        ∙ getD-append-add (stateWords g) (stateWords a) i 0
+        let q : 68 + i - 68 ≡ i = omega arith in
+        state-at (68 + i) (omega arith) (omega arith)
+        ∙ sym (word-antenna g a (68 + i) (omega arith) (omega arith))
+        ∙ ap (λ (n : ℕ). getD (stateWords a) n 0) q
 
-    ok-of-state : (x : Seen) (at : ℕ → ℕ) → ((i : ℕ) → i < 69 → at i ≡ getD (stateWords x) i 0) → at 0 ≡ 0 → at 1 ≡ 0 → OkTwice x
+    -- and where 138 were lent, the commands still queued
+    pub gate-commands : 138 ≤ length state → getD (left .state) 136 0 ≡ commandsIn (g .wire .transmit)
+    gate-commands h = state-at 136 (omega arith) (omega arith) ∙ sym (word-gate-commands g a 136 (omega arith) (omega arith))
+
+    pub antenna-commands : 138 ≤ length state → getD (left .state) 137 0 ≡ commandsIn (a .wire .transmit)
+    antenna-commands h = state-at 137 (omega arith) (omega arith) ∙ sym (word-antenna-commands g a 137 (omega arith) (omega arith))
+
+    ok-of-state : (x : Seen) (at : ℕ → ℕ) → ((i : ℕ) → i < 68 → at i ≡ getD (stateWords x) i 0) → at 0 ≡ 0 → at 1 ≡ 0 → OkTwice x
     ok-of-state x at h t f = ok-of-numbers x (sym (h 0 (omega arith)) ∙ t) (sym (h 1 (omega arith)) ∙ f)
 
-    -- Ok twice, as a host reads it: words 0 and 1 are 0, and 69 and 70. So what `Agreement` says of such ends, it says of these words
+    -- Ok twice, as a host reads it: words 0 and 1 are 0, and 68 and 69. So what `Agreement` says of such ends, it says of these words
     pub gate-ok : getD (left .state) 0 0 ≡ 0 → getD (left .state) 1 0 ≡ 0 → OkTwice g
     gate-ok = ok-of-state g (λ i. getD (left .state) i 0) gate-state
 
-    pub antenna-ok : getD (left .state) 69 0 ≡ 0 → getD (left .state) 70 0 ≡ 0 → OkTwice a
-    antenna-ok = ok-of-state a (λ i. getD (left .state) (69 + i) 0) antenna-state
+    pub antenna-ok : getD (left .state) 68 0 ≡ 0 → getD (left .state) 69 0 ≡ 0 → OkTwice a
+    antenna-ok = ok-of-state a (λ i. getD (left .state) (68 + i) 0) antenna-state
 
     -- WHAT A HOST MAY CONCLUDE from four answers 0: each read buffer has the other board's elements, or fillers
     pub host-holds : Elements (widthBits w) gateRead → Elements (widthBits w) gateWrite → Elements (widthBits w) antennaRead
-        → Elements (widthBits w) antennaWrite → getD (left .state) 0 0 ≡ 0 → getD (left .state) 1 0 ≡ 0 → getD (left .state) 69 0 ≡ 0
-        → getD (left .state) 70 0 ≡ 0 → Holds gateStart antennaStart (left .gateRead) × Holds antennaStart gateStart (left .antennaRead)
+        → Elements (widthBits w) antennaWrite → getD (left .state) 0 0 ≡ 0 → getD (left .state) 1 0 ≡ 0 → getD (left .state) 68 0 ≡ 0
+        → getD (left .state) 69 0 ≡ 0 → Holds gateStart antennaStart (left .gateRead) × Holds antennaStart gateStart (left .antennaRead)
     host-holds gr gw ar aw gt gf at af =
         let d = host-agreement gr gw ar aw zero-number in
         (d .gateHolds (gate-ok gt gf) (antenna-ok at af), d .antennaHolds (gate-ok gt gf) (antenna-ok at af))

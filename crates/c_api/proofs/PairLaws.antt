@@ -17,7 +17,7 @@ use Rattle.bus.specs.declared.trial.Outcome.{Outcome}
 use Rattle.bus.specs.Trial.{TrialLeft, trialOf, Tried}
 use Rattle.agreement.specs.End.{wordsIn}
 use Rattle.bus.specs.View.{queued, stateOf}
-use Rattle.c_api.specs.HostBus.{headWords, commandsIn, stateWords, stateLeft, boardOf, hostTrial, ofTrial, trialBy}
+use Rattle.c_api.specs.HostBus.{headWords, commandsIn, stateWords, pairWords, stateLeft, boardOf, hostTrial, ofTrial, trialBy}
 
 filled-at : (d n i : ℕ) (xs : List ℕ) → i < n → getD (filled d n xs) i d ≡ getD xs i d
 filled-at d zero i xs h = absurd (omega arith)
@@ -35,12 +35,6 @@ behind : (xs ys : List ℕ) (n i : ℕ) → length xs ≡ n → n ≤ i → getD
 behind xs ys n i e h =
     let q : i ≡ length xs + (i - n) = omega (arith, e) in ap (λ (k : ℕ). getD (xs ++ ys) k 0) q ∙ getD-append-add xs ys (i - n) 0
 
--- what a port queues, as the words of a state have it
-pub commands-queued : (n : ℕ) (words : List ℕ) → commandsIn (queued n words) ≡ n
-commands-queued zero [] = refl
-commands-queued zero (v ∷ words) = commands-queued zero words
-commands-queued (suc n) words = ap suc (commands-queued n words)
-
 -- THE WORDS OF A STATE
 module _ (x : Seen) where
   abbrev head : List ℕ
@@ -52,90 +46,87 @@ module _ (x : Seen) where
   abbrev receives : List ℕ
   receives = filled 0 16 (x .wire .receive)
 
-  abbrev registers : List ℕ
-  registers = filled 0 30 (x .registers)
+  abbrev rest : List ℕ
+  rest = filled 0 30 (x .registers)
 
-  abbrev last : List ℕ
-  last = commandsIn (x .wire .transmit) ∷ []
-
-  length-sends : length sends ≡ 16
-  length-sends = length-filled 0 16 (wordsIn (x .wire .transmit))
-
-  length-receives : length receives ≡ 16
-  length-receives = length-filled 0 16 (x .wire .receive)
-
-  length-registers : length registers ≡ 30
-  length-registers = length-filled 0 30 (x .registers)
-
-  pub length-state : length (stateWords x) ≡ 69
+  pub length-state : length (stateWords x) ≡ 68
   length-state =
-      length-append head (sends ++ (receives ++ (registers ++ last)))
+      length-append head (sends ++ (receives ++ rest))
       ∙ ap (λ (n : ℕ). 6 + n)
-      (length-append sends (receives ++ (registers ++ last))
-      ∙ ap₂ _+_ length-sends
-      (length-append receives (registers ++ last)
-      ∙ ap₂ _+_ length-receives (length-append registers last ∙ ap (λ (n : ℕ). n + 1) length-registers)))
+      (length-append sends (receives ++ rest)
+      ∙ ap₂ _+_ (length-filled 0 16 (wordsIn (x .wire .transmit)))
+      (length-append receives rest ∙ ap₂ _+_ (length-filled 0 16 (x .wire .receive)) (length-filled 0 30 (x .registers))))
 
   pub word-head : (i : ℕ) → i < 6 → getD (headWords (x .transfer) (x .flush) (x .wire)) i 0 ≡ getD (stateWords x) i 0
-  word-head i h = sym (front head (sends ++ (receives ++ (registers ++ last))) 6 i refl h)
-
-  -- behind the head, behind the words to be sent, behind those to be read
-  from-sends : (i : ℕ) → 6 ≤ i → getD (stateWords x) i 0 ≡ getD (sends ++ (receives ++ (registers ++ last))) (i - 6) 0
-  from-sends i l = behind head (sends ++ (receives ++ (registers ++ last))) 6 i refl l
-
-  from-receives : (i : ℕ) → 22 ≤ i → getD (stateWords x) i 0 ≡ getD (receives ++ (registers ++ last)) (i - 22) 0
-  from-receives i l =
-      let q : i - 6 - 16 ≡ i - 22 = omega arith in
-      from-sends i (omega arith)
-      ∙ behind sends (receives ++ (registers ++ last)) 16 (i - 6) length-sends (omega arith)
-      ∙ ap (λ (k : ℕ). getD (receives ++ (registers ++ last)) k 0) q
-
-  from-registers : (i : ℕ) → 38 ≤ i → getD (stateWords x) i 0 ≡ getD (registers ++ last) (i - 38) 0
-  from-registers i l =
-      let q : i - 22 - 16 ≡ i - 38 = omega arith in
-      from-receives i (omega arith)
-      ∙ behind receives (registers ++ last) 16 (i - 22) length-receives (omega arith)
-      ∙ ap (λ (k : ℕ). getD (registers ++ last) k 0) q
+  word-head i h = sym (front head (sends ++ (receives ++ rest)) 6 i refl h)
 
   pub word-transmit : (i : ℕ) → 6 ≤ i → i < 22 → getD (wordsIn (x .wire .transmit)) (i - 6) 0 ≡ getD (stateWords x) i 0
   word-transmit i l h =
       sym
-      (from-sends i l
-      ∙ front sends (receives ++ (registers ++ last)) 16 (i - 6) length-sends (omega arith)
+      (behind head (sends ++ (receives ++ rest)) 6 i refl l
+      ∙ front sends (receives ++ rest) 16 (i - 6) (length-filled 0 16 (wordsIn (x .wire .transmit))) (omega arith)
       ∙ filled-at 0 16 (i - 6) (wordsIn (x .wire .transmit)) (omega arith))
 
   pub word-receive : (i : ℕ) → 22 ≤ i → i < 38 → getD (x .wire .receive) (i - 22) 0 ≡ getD (stateWords x) i 0
   word-receive i l h =
+      let q : i - 6 - 16 ≡ i - 22 = omega arith in
       sym
-      (from-receives i l
-      ∙ front receives (registers ++ last) 16 (i - 22) length-receives (omega arith)
+      (behind head (sends ++ (receives ++ rest)) 6 i refl (omega arith)
+      ∙ behind sends (receives ++ rest) 16 (i - 6) (length-filled 0 16 (wordsIn (x .wire .transmit))) (omega arith)
+      ∙ ap (λ (k : ℕ). getD (receives ++ rest) k 0) q
+      ∙ front receives rest 16 (i - 22) (length-filled 0 16 (x .wire .receive)) (omega arith)
       ∙ filled-at 0 16 (i - 22) (x .wire .receive) (omega arith))
 
   pub word-register : (i : ℕ) → 38 ≤ i → i < 68 → getD (x .registers) (i - 38) 0 ≡ getD (stateWords x) i 0
   word-register i l h =
+      let q : i - 6 - 16 ≡ i - 22 = omega arith in
+      let p : i - 22 - 16 ≡ i - 38 = omega arith in
       sym
-      (from-registers i l
-      ∙ front registers last 30 (i - 38) length-registers (omega arith)
+      (behind head (sends ++ (receives ++ rest)) 6 i refl (omega arith)
+      ∙ behind sends (receives ++ rest) 16 (i - 6) (length-filled 0 16 (wordsIn (x .wire .transmit))) (omega arith)
+      ∙ ap (λ (k : ℕ). getD (receives ++ rest) k 0) q
+      ∙ behind receives rest 16 (i - 22) (length-filled 0 16 (x .wire .receive)) (omega arith)
+      ∙ ap (λ (k : ℕ). getD rest k 0) p
       ∙ filled-at 0 30 (i - 38) (x .registers) (omega arith))
 
-  pub word-commands : (i : ℕ) → 68 ≤ i → i < 69 → commandsIn (x .wire .transmit) ≡ getD (stateWords x) i 0
-  word-commands i l h =
-      let q : i - 38 - 30 ≡ 0 = omega arith in
-      sym
-      (from-registers i (omega arith)
-      ∙ behind registers last 30 (i - 38) length-registers (omega arith)
-      ∙ ap (λ (k : ℕ). getD last k 0) q)
+-- what a port queues
+pub commands-queued : (n : ℕ) (words : List ℕ) → commandsIn (queued n words) ≡ n
+commands-queued zero [] = refl
+commands-queued zero (v ∷ words) = commands-queued zero words
+commands-queued (suc n) words = ap suc (commands-queued n words)
 
 -- BOTH STATES
 module _ (g a : Seen) where
-  pub word-gate : (i : ℕ) → i < 69 → getD (stateWords g) i 0 ≡ getD (stateWords g ++ stateWords a) i 0
-  word-gate i h = sym (front (stateWords g) (stateWords a) 69 i (length-state g) h)
+  abbrev last : List ℕ
+  last = commandsIn (g .wire .transmit) ∷ commandsIn (a .wire .transmit) ∷ []
 
-  pub word-antenna : (i : ℕ) → 69 ≤ i → getD (stateWords a) (i - 69) 0 ≡ getD (stateWords g ++ stateWords a) i 0
-  word-antenna i h = sym (behind (stateWords g) (stateWords a) 69 i (length-state g) h)
+  pub word-gate : (i : ℕ) → i < 68 → getD (stateWords g) i 0 ≡ getD (pairWords g a) i 0
+  word-gate i h = sym (front (stateWords g) (stateWords a ++ last) 68 i (length-state g) h)
 
-  pub length-both : length (stateWords g ++ stateWords a) ≡ 138
-  length-both = length-append (stateWords g) (stateWords a) ∙ ap₂ _+_ (length-state g) (length-state a)
+  from-antenna : (i : ℕ) → 68 ≤ i → getD (pairWords g a) i 0 ≡ getD (stateWords a ++ last) (i - 68) 0
+  from-antenna i h = behind (stateWords g) (stateWords a ++ last) 68 i (length-state g) h
+
+  pub word-antenna : (i : ℕ) → 68 ≤ i → i < 136 → getD (stateWords a) (i - 68) 0 ≡ getD (pairWords g a) i 0
+  word-antenna i l h = sym (from-antenna i l ∙ front (stateWords a) last 68 (i - 68) (length-state a) (omega arith))
+
+  from-last : (i k : ℕ) → i ≡ 136 + k → getD last k 0 ≡ getD (pairWords g a) i 0
+  from-last i k e =
+      let q : i - 68 - 68 ≡ k = omega (arith, e) in
+      sym
+      (from-antenna i (omega (arith, e))
+      ∙ behind (stateWords a) last 68 (i - 68) (length-state a) (omega (arith, e))
+      ∙ ap (λ (n : ℕ). getD last n 0) q)
+
+  pub word-gate-commands : (i : ℕ) → 136 ≤ i → i < 137 → commandsIn (g .wire .transmit) ≡ getD (pairWords g a) i 0
+  word-gate-commands i l h = from-last i 0 (omega arith)
+
+  pub word-antenna-commands : (i : ℕ) → 137 ≤ i → i < 138 → commandsIn (a .wire .transmit) ≡ getD (pairWords g a) i 0
+  word-antenna-commands i l h = from-last i 1 (omega arith)
+
+  pub length-both : length (pairWords g a) ≡ 138
+  length-both =
+      length-append (stateWords g) (stateWords a ++ last)
+      ∙ ap₂ _+_ (length-state g) (length-append (stateWords a) last ∙ ap (λ (n : ℕ). n + 2) (length-state a))
 
 tabulate-all : (n : ℕ) (xs : List ℕ) → length xs ≡ n → tabulate n (λ i. getD xs i 0) ≡ xs
 tabulate-all zero [] e = refl

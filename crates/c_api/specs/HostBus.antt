@@ -24,7 +24,7 @@ use Rattle.words.specs.Width.{widthBits}
 use Rattle.bus.specs.Trial.{TrialLeft, trialOf}
 use Rattle.c_api.specs.HostRun.{driverOf}
 
--- THE STATE OF AN END, 69 words
+-- THE STATE OF AN END, 68 words
 
 -- document 01's number of an answer, 255 while there is none
 abbrev pub answerNumber : Access → ℕ
@@ -40,18 +40,22 @@ headWords transfer flush wire =
     answerNumber (dueAccess transfer) ∷ answerNumber (flushAccess flush) ∷ flagOf (wire .t) ∷ flagOf (wire .r)
     ∷ length (wordsIn (wire .transmit)) ∷ length (wire .receive) ∷ []
 
--- how many commands a transmit queue has; they stand before its words
+-- then the words to be sent, 0 past them, the receive queue, and the 30 registers
+abbrev pub stateWords : Seen → List ℕ
+stateWords x =
+    headWords (x .transfer) (x .flush) (x .wire)
+    ++ (filled 0 16 (wordsIn (x .wire .transmit)) ++ (filled 0 16 (x .wire .receive) ++ filled 0 30 (x .registers)))
+
+-- how many commands a transmit queue has. They stand before its words: in what a trial leaves it is `queued` (bus `View`)
 abbrev pub commandsIn : List Item → ℕ
 commandsIn [] = 0
 commandsIn (Command ∷ queue) = suc (commandsIn queue)
 commandsIn (Word v ∷ queue) = commandsIn queue
 
--- then the words to be sent, 0 past them, the receive queue, the 30 registers, and the commands in the transmit queue
-abbrev pub stateWords : Seen → List ℕ
-stateWords x =
-    headWords (x .transfer) (x .flush) (x .wire)
-    ++ (filled 0 16 (wordsIn (x .wire .transmit))
-    ++ (filled 0 16 (x .wire .receive) ++ (filled 0 30 (x .registers) ++ (commandsIn (x .wire .transmit) ∷ []))))
+-- BOTH STATES, 138 words: the gate's, the antenna's, and behind them the commands queued at the gate and at the antenna
+abbrev pub pairWords : Seen → Seen → List ℕ
+pairWords gate antenna =
+    stateWords gate ++ (stateWords antenna ++ (commandsIn (gate .wire .transmit) ∷ commandsIn (antenna .wire .transmit) ∷ []))
 
 -- THE TRIAL
 
@@ -71,9 +75,9 @@ pub record HostTrial : Type 0 where
 abbrev pub hostTrial : ℕ → List ℕ → List ℕ → List ℕ → HostTrial
 hostTrial number gateRead antennaRead state = record { number = number; gateRead = gateRead; antennaRead = antennaRead; state = state }
 
--- both states, the gate's first, over the front of what was lent for them; at 9 "all as found"
+-- both states over the front of what was lent for them; at 9 "all as found"
 abbrev pub stateLeft : ℕ → Seen → Seen → List ℕ → List ℕ
-stateLeft number gate antenna state = cond (eqb number 9) state (laid (stateWords gate ++ stateWords antenna) state)
+stateLeft number gate antenna state = cond (eqb number 9) state (laid (pairWords gate antenna) state)
 
 -- of what the pair entry leaves
 abbrev pub ofTrial : TrialLeft → List ℕ → HostTrial

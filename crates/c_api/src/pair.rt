@@ -1,17 +1,17 @@
 // Two boards over the bus: the number of a trial, with both read buffers and both ends' states where they go.
 //
-// `state` gets 138 words, 69 for each end, the gate's first: the numbers of its transfer and its flush, or 255; T and R; how many words
-// are to be sent and to be read; 16 places for each; the 30 registers; how many commands stand before the words to be sent. What has no
-// room is dropped. The answer is 0, or 9 for boards that make no pair. At 9 `state` and both read buffers are as found, so a host looks
-// at the number first: zeros that it lent as `state` would read as Ok twice at both ends.
+// `state` gets 138 words. 68 are for each end, the gate's first: the numbers of its transfer and its flush, or 255; T and R; how many words
+// are to be sent and to be read; 16 places for each; the 30 registers. The last two are the commands that stand before the words to be
+// sent, at the gate and at the antenna. What has no room is dropped. The answer is 0, or 9 for boards that make no pair. At 9 `state` and
+// both read buffers are as found, so a host looks at the number first: zeros that it lent as `state` would read as Ok twice at both ends.
 ghost use Prim.Native.Nat.{_<_, min};
-ghost use mathlib.Core.List.{_++_};
 ghost use mathlib.Core.Path.{_≡_};
 ghost use lib.ListN.{getD};
 ghost use Rattle.words.specs.declared.width.Width.the-variants.{U8, U16, U32};
 ghost use Rattle.words.specs.Word.{laid};
 ghost use Rattle.bus.specs.View.{wireOf, stateOf};
-ghost use Rattle.c_api.specs.HostBus.{answerNumber, headWords, stateWords, stateLeft, boardOf, hostTrial, trialBy};
+ghost use Rattle.c_api.specs.HostBus.{answerNumber, headWords, stateWords, commandsIn, pairWords, stateLeft};
+ghost use Rattle.c_api.specs.HostBus.{boardOf, hostTrial, trialBy};
 use crate::driver::driver_of;
 use agreement::board::Board;
 use bus::station::Station;
@@ -62,7 +62,7 @@ fn head(station: Station) -> [u32; 6]
 
 // Word `i` of an end's state.
 fn state_word(end: EndState, i: usize) -> u32
-    requires { ⌜ i < 69 ⌝ }
+    requires { ⌜ i < 68 ⌝ }
     ensures { λ r. ⌜ r ≡ getD (stateWords (stateOf end)) i 0 ⌝ }
 {
     let station = end.station;
@@ -79,28 +79,39 @@ fn state_word(end: EndState, i: usize) -> u32
         let receive = port.receive;
         return receive.word(i - 22);
     }
-    if i < 68 {
-        let registers = end.registers;
-        return registers[i - 38];
-    }
+    let registers = end.registers;
+    registers[i - 38]
+}
+
+// The commands that stand before the words to be sent.
+fn commands(end: EndState) -> u32
+    ensures { λ r. ⌜ r ≡ commandsIn (stateOf end .wire .transmit) ⌝ }
+{
+    let station = end.station;
+    let port = station.port;
     port.commands
 }
 
 // Word `i` of both states.
 fn pair_word(gate: EndState, antenna: EndState, i: usize) -> u32
     requires { ⌜ i < 138 ⌝ }
-    ensures { λ r. ⌜ r ≡ getD (stateWords (stateOf gate) ++ stateWords (stateOf antenna)) i 0 ⌝ }
+    ensures { λ r. ⌜ r ≡ getD (pairWords (stateOf gate) (stateOf antenna)) i 0 ⌝ }
 {
-    if i < 69 {
+    if i < 68 {
         return state_word(gate, i);
     }
-    state_word(antenna, i - 69)
+    if i < 136 {
+        return state_word(antenna, i - 68);
+    }
+    if i < 137 {
+        return commands(gate);
+    }
+    commands(antenna)
 }
 
 // What has no room is dropped.
 fn show(gate: EndState, antenna: EndState, state: &mut [u32])
-    ensures { λ _. ⌜ now (state .exit)
-        ≡ laid (stateWords (stateOf gate) ++ stateWords (stateOf antenna)) (now (state .entry)) ⌝ }
+    ensures { λ _. ⌜ now (state .exit) ≡ laid (pairWords (stateOf gate) (stateOf antenna)) (now (state .entry)) ⌝ }
 {
     let n = least(138, state.len());
     for i in 0..n {

@@ -7,6 +7,7 @@
 //                the antenna
 //
 // An element has 8 bits, unless the first line goes on with the gate's and the antenna's width (8, 16 or 32), as in `M S2 P3 16 16`.
+// With exponent 0 or 1 a board never sends a word, since its command takes a place too.
 // A separate read buffer is as long as the longer line and starts as zeros. Spaces between events are passed over. A board has at most 512
 // elements, and a trial at most 65,536 letters and spaces of events. A trial with a line of another form prints `bad` and its number, from
 // 1 on. Lines missing at the end count as empty. An input of more than 262,144 bytes prints `bad`, and none of its trials is run.
@@ -16,7 +17,10 @@ ghost use mathlib.Core.Path.{_≡_};
 ghost use lib.ListN.{length};
 use agreement::board::Board;
 use bus::fifo::Fifo;
+use bus::port::Port;
+use bus::station::Station;
 use bus::trial::EndState;
+use bus::trial::Outcome;
 use bus::trial::trial_u8;
 use bus::trial::trial_u16;
 use bus::trial::trial_u32;
@@ -122,26 +126,38 @@ fn queue(fifo: Fifo) {
     }
 }
 
-fn show_end(end: EndState) {
-    let station = end.station;
+fn show_answers(station: Station) {
     let transfer = station.transfer;
     let flush = station.flush;
-    let port = station.port;
-    let transmit = port.transmit;
-    let receive = port.receive;
     text(b" transfer");
     answer(transfer.next());
     text(b" flush");
     answer(flush.next());
+}
+
+fn show_flags(port: Port) {
     text(b" flags");
     flag(b" T", port.t);
     flag(b" R", port.r);
+}
+
+fn show_queues(port: Port) {
+    let transmit = port.transmit;
+    let receive = port.receive;
     text(b" sending");
     commands(port.commands);
     queue(transmit);
     text(b" receiving");
     queue(receive);
-    text(b"\n");
+}
+
+fn show_end(end: EndState) {
+    let station = end.station;
+    let port = station.port;
+    show_answers(station);
+    show_flags(port);
+    show_queues(port);
+    end_line();
 }
 
 fn show_number(number: u32) {
@@ -156,6 +172,21 @@ fn show(name: &[u8], end: EndState) {
     show_end(end);
     text(name);
     text(b" reads");
+}
+
+fn show_gate(outcome: Outcome) {
+    show_number(outcome.number);
+    let end = outcome.gate;
+    show(b"gate", end);
+}
+
+fn show_antenna(outcome: Outcome) {
+    let end = outcome.antenna;
+    show(b"antenna", end);
+}
+
+fn end_line() {
+    text(b"\n");
 }
 
 // The place of the next newline, or the end.
@@ -284,15 +315,12 @@ fn run_u8(
     );
     let gate_width = gate.width;
     let antenna_width = antenna.width;
-    show_number(outcome.number);
-    let g = outcome.gate;
-    show(b"gate", g);
+    show_gate(outcome);
     bytes(gate_width, &gate_read[..]);
-    text(b"\n");
-    let a = outcome.antenna;
-    show(b"antenna", a);
+    end_line();
+    show_antenna(outcome);
     bytes(antenna_width, &antenna_read[..]);
-    text(b"\n");
+    end_line();
 }
 
 fn run_u16(
@@ -315,15 +343,12 @@ fn run_u16(
     );
     let gate_width = gate.width;
     let antenna_width = antenna.width;
-    show_number(outcome.number);
-    let g = outcome.gate;
-    show(b"gate", g);
+    show_gate(outcome);
     halves(gate_width, &gate_read[..]);
-    text(b"\n");
-    let a = outcome.antenna;
-    show(b"antenna", a);
+    end_line();
+    show_antenna(outcome);
     halves(antenna_width, &antenna_read[..]);
-    text(b"\n");
+    end_line();
 }
 
 fn run_u32(
@@ -346,15 +371,12 @@ fn run_u32(
     );
     let gate_width = gate.width;
     let antenna_width = antenna.width;
-    show_number(outcome.number);
-    let g = outcome.gate;
-    show(b"gate", g);
+    show_gate(outcome);
     words(gate_width, &gate_read[..]);
-    text(b"\n");
-    let a = outcome.antenna;
-    show(b"antenna", a);
+    end_line();
+    show_antenna(outcome);
     words(antenna_width, &antenna_read[..]);
-    text(b"\n");
+    end_line();
 }
 
 // Buffers for both boards, of the elements that their lines have.

@@ -25,9 +25,9 @@ const GREATEST_EXPONENT: usize = 4;
 /// Registers, by their offset divided by 4.
 const REGISTERS: usize = 30;
 /// How many answers are guessed.
-const GUESSES: usize = 8;
+const GUESSES: usize = 14;
 /// Words of [`End::state`].
-pub const STATE: usize = 38 + REGISTERS + 1;
+pub const STATE: usize = 38 + REGISTERS;
 
 /// One of the two ends.
 #[derive(Debug, Clone, Copy, PartialEq, Eq)]
@@ -168,7 +168,7 @@ pub struct Happened {
     pub commands_behind: u32,
     /// Commands that RTF or RST took out of the queue.
     pub commands_cleared: u32,
-    /// Clocks, and of the antenna underruns, that found a command and no word behind it.
+    /// Clocks (at the antenna: underruns) that found a command and no word.
     pub commands_kept: u32,
     /// Words lost by arriving at a full queue.
     pub lost_received: u32,
@@ -237,8 +237,13 @@ impl End {
     }
 
     /// Commands in the transmit queue.
-    fn commands(&self) -> usize {
+    pub fn commands(&self) -> usize {
         self.transmit.len() - self.words().count()
+    }
+
+    /// Whether T or R is set.
+    pub fn flagged(&self) -> bool {
+        self.t || self.r
     }
 
     /// Whether a clock finds a word to send and room for the one that arrives.
@@ -278,7 +283,7 @@ impl End {
     }
 
     /// The state in words: both result numbers or 255, flags, counts of words, 16
-    /// places for the words of each queue, the registers, and the count of commands.
+    /// places for the words of each queue, and the registers.
     pub fn state(&self) -> [u32; STATE] {
         let mut state = [0; STATE];
         let [transfer, flush] = self.numbers().map(|number| number.unwrap_or(255));
@@ -299,8 +304,7 @@ impl End {
         for (first, queue) in [6, 22].into_iter().zip(queues) {
             state[first..][..queue.len()].copy_from_slice(&queue);
         }
-        state[38..][..REGISTERS].copy_from_slice(&self.registers);
-        state[STATE - 1] = self.commands() as u32;
+        state[38..].copy_from_slice(&self.registers);
         state
     }
 

@@ -106,7 +106,7 @@ struct Left<W> {
 
 impl<W: Both> Left<W> {
     /// What the state holds before: words after those of both ends are kept.
-    const FOUND: [u32; 2 * STATE + 3] = [0xDEAD_BEEF; 2 * STATE + 3];
+    const FOUND: [u32; 2 * STATE + 5] = [0xDEAD_BEEF; 2 * STATE + 5];
 
     fn by_port(boards: &[Board<W>; 2], events: &[u8]) -> Self {
         let [gate, antenna] = boards;
@@ -138,7 +138,9 @@ impl<W: Both> Left<W> {
         // At 9 all is as found.
         if bus.number() != 9 {
             let ends = SIDES.map(|side| bus.end(side).state());
+            let commands = SIDES.map(|side| bus.end(side).commands() as u32);
             state[..2 * STATE].copy_from_slice(ends.as_flattened());
+            state[2 * STATE..][..2].copy_from_slice(&commands);
         }
         Self {
             number: bus.number(),
@@ -160,7 +162,8 @@ fn list<W: Both>(random: &mut Random) -> (usize, BTreeSet<Branch>) {
     let mut events = vec![];
     let total = boards[0].total();
     let words = total.div_ceil(Transfer::<W>::PER_WORD);
-    let mut chooser = Chooser::new(random, manner, words);
+    let sends = boards.iter().all(|board| board.exponent > 1) || total == 0;
+    let mut chooser = Chooser::new(random, manner, words, sends);
     // A flag was set.
     let mut flagged = false;
     loop {
@@ -200,7 +203,6 @@ fn list<W: Both>(random: &mut Random) -> (usize, BTreeSet<Branch>) {
         check_exchanged(&mut bus, &case);
     }
     let accepted = bus.number() == 0 && total <= Transfer::<W>::LONGEST;
-    let sends = boards.iter().all(|board| board.exponent > 1) || total == 0;
     if matches!(manner, Manner::Careful | Manner::Mixed) && accepted && sends && !flagged {
         assert!(both_ok(&bus), "{case:?}");
     }

@@ -166,13 +166,9 @@ fn end<W: Element>(bus: &Bus<W>, side: Side, reached: &mut BTreeSet<Branch>) {
     add(Branch::OnlyCommandAtGate, kept && side == Side::Gate);
     add(Branch::OnlyCommandAtAntenna, kept && side == Side::Antenna);
     add(Branch::CommandCleared, happened.commands_cleared > 0);
-    // A poll for the command, and one for a word, were unready.
-    add(
-        Branch::NeverCommands,
-        board.exponent == 0 && end.accesses() > 3,
-    );
-    add(
-        Branch::NeverSends,
-        board.exponent == 1 && end.accesses() > 7 && happened.commands > 0,
-    );
+    // Polls for the command, or for a word behind it, were unready; no error cut them short.
+    let waits = transfer.is_none() && !end.flagged() && happened.commands_cleared == 0;
+    let waited = |accesses| waits && end.accesses() > accesses;
+    add(Branch::NeverCommands, board.exponent == 0 && waited(3));
+    add(Branch::NeverSends, board.exponent == 1 && waited(7));
 }

@@ -64,7 +64,7 @@ fn board<W: Element>(random: &mut Random, lsb: bool, total: usize) -> Board<W> {
     let exponent = match random.below(64) {
         0 => [5, 6, 16, usize::MAX][random.below(4)],
         1 => 0,
-        2..5 => 1,
+        2 => 1,
         other => 2 + other % 3,
     };
     let shorter = match random.flag() {
@@ -100,7 +100,8 @@ pub struct Chooser {
 }
 
 impl Chooser {
-    pub fn new(random: &mut Random, manner: Manner, words: usize) -> Self {
+    /// For exchanges of so many words; `sends`: both ends have FIFOs that let them send.
+    pub fn new(random: &mut Random, manner: Manner, words: usize, sends: bool) -> Self {
         let random_events = match manner {
             Manner::Careful | Manner::Disturbed => 0,
             Manner::Mixed => random.below(60),
@@ -117,7 +118,9 @@ impl Chooser {
         }
         let left = match manner {
             Manner::Reckless => random_events,
-            // Enough to end, unless an end waits for words that never come.
+            // They do not end.
+            Manner::Careful | Manner::Mixed if !sends => 80 + random.below(100),
+            // Enough to end.
             Manner::Careful | Manner::Mixed => 600 + 100 * words,
             Manner::Disturbed => 60 + 40 * words,
         };

@@ -1,6 +1,5 @@
 -- `none_if` meets its contract.
 -- Assumes nothing.
-use borrow.Author.Needs.{needs}
 use Rattle.bus.proofs.port.none_if.Statement.{statement}
 use Rattle.bus.proofs.port.none_if.Tie as tie
 

@@ -7,7 +7,7 @@ use native.Mathlib.Omega.{arith}
 use lib.ListN.{getD}
 use Rattle.bus.specs.View.{queueOf, stateOf}
 use Rattle.bus.proofs.QueuedLaws.{words-queued}
-use Rattle.c_api.proofs.PairLaws.{word-head, word-transmit, word-receive, word-register, word-commands, commands-queued}
+use Rattle.c_api.proofs.PairLaws.{word-head, word-transmit, word-receive, word-register}
 use borrow.Author.Needs.{needs}
 use Rattle.c_api.proofs.pair.state_word.Statement.{statement}
 use Rattle.c_api.proofs.pair.state_word.Tie as tie
@@ -32,15 +32,8 @@ returns-3 c =
 
 returns-4 : tie.Need-returns-4
 returns-4 c =
-    let a = c .before .before .before .before .before .before .before .args in
-    word-register (stateOf (a .end)) (a .i) (omega arith) (omega arith)
-
-returns-5 : tie.Need-returns-5
-returns-5 c =
     let a = c .before .before .before .before .before .before .args in
-    let port = a .end .station .port in
-    sym (commands-queued (port .commands) (queueOf (port .transmit)))
-    ∙ word-commands (stateOf (a .end)) (a .i) (omega arith) (omega arith)
+    word-register (stateOf (a .end)) (a .i) (omega arith) (omega arith)
 
 pub state-word-spec : {M : Type 1} → statement M
 state-word-spec =
@@ -56,5 +49,4 @@ state-word-spec =
     returns-3
     (λ c. search needs)
     (λ c. search needs)
-    returns-4
-    returns-5)
+    returns-4)
