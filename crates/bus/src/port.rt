@@ -19,11 +19,11 @@ use words::transaction::Direction;
 use words::transaction::flag;
 
 pub struct Port {
-    // The commands in the transmit FIFO, before its words.
-    pub commands: u32,
-    // Its words.
+    // The words of the transmit FIFO.
     pub transmit: Fifo,
     pub receive: Fifo,
+    // The commands in the transmit FIFO, before its words.
+    pub commands: u32,
     // The transmit error flag.
     pub t: bool,
     // The receive error flag.

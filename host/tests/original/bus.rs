@@ -221,6 +221,7 @@ fn lists<W: Both>(test: &'static str, count: u32) {
     }
     tally.demand(&test, |branch| match branch {
         Branch::BothOkLongest => 5,
+        Branch::LostAtGate => 10,
         _ => 20,
     });
 }
