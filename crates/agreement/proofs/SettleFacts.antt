@@ -27,7 +27,8 @@ use Rattle.machine.specs.declared.transfer.Work.{Work}
 use Rattle.machine.specs.Transfer.{at, sendTurn, receiveTurn, counted, oneSent, oneReceived, dueAccess, resumed}
 use Rattle.runs.proofs.Places.{counted-up}
 use Rattle.agreement.specs.Start.{Job}
-use Rattle.agreement.specs.End.{Command as aCommand, Wire, queues, wordsIn, front, behind, placeOf, shows, registersAfter, End, end, stepped}
+use Rattle.agreement.specs.End.{Command as aCommand, Wire, queues, wordsIn, front, behind, placeOf, shows}
+use Rattle.agreement.specs.End.{registersAfter, End, end, stepped}
 use Rattle.agreement.specs.Tally.{Tally}
 use Rattle.agreement.specs.Agreement.{OkTwice, seen}
 use Rattle.agreement.proofs.ShownLaws.{shows-t, shows-r, shows-busy, shows-exponent, below-capacity}
@@ -278,7 +279,8 @@ module _ (n : ℕ) (accepts : Bool) (j : Job) (other : ℕ → ℕ) (small-e : j
         → L (on (Receiving (Counts v)))
     receiving-counts v pos x l go = by-tests (ltb 0 (length (w .receive))) (ltb 0 (length (wordsIn (w .transmit)))) refl refl
       where
-        by-tests : (y z : Bool) → ltb 0 (length (w .receive)) ≡ y → ltb 0 (length (wordsIn (w .transmit))) ≡ z → L (on (Receiving (Counts v)))
+        by-tests : (y z : Bool) → ltb 0 (length (w .receive)) ≡ y → ltb 0 (length (wordsIn (w .transmit))) ≡ z
+            → L (on (Receiving (Counts v)))
         by-tests true z h h′ = let a = ltb-true 0 (length (w .receive)) h in go-receiving-ready v a (go a)
         by-tests false true h h′ =
             here (on (Receiving (Counts v)))
@@ -289,7 +291,8 @@ module _ (n : ℕ) (accepts : Bool) (j : Job) (other : ℕ → ℕ) (small-e : j
             let b : length (wordsIn (w .transmit)) ≡ 0 = omega (arith, ltb-false 0 (length (wordsIn (w .transmit))) h′) in
             let l′ : c < n = omega (arith, x .inEq, B .lostLe, calm) in
             let e : sendTurn k ≡ Sending Status = rw (lt-ltb (k .sent) (k .send) (omega (arith, x .toSend, x .outEq, B .madeLe, calm))) in
-            go-receiving-unready v a (subst (λ (p : Stage). L (on p)) (sym e) (kick pos a (omega (arith, b, one-command (w .transmit) (x .first))) l′))
+            let few : length (w .transmit) ≤ 1 = omega (arith, b, one-command (w .transmit) (x .first)) in
+            go-receiving-unready v a (subst (λ (p : Stage). L (on p)) (sym e) (kick pos a few l′))
 
     sending-counts : (v : ℕ) → Cr k rs w → readField (Param TXFIFO) v ≡ j .exponent
         → (length (w .transmit) < j .exponent → L (on Send)) → (length rs < n → L (on (Receiving Status)))

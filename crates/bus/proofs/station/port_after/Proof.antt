@@ -24,7 +24,8 @@ returns-2 c =
       c .after-write .ensures .0,
       λ h.
           rw (c .before .before .before .access2 .given .1)
-          (c .after-write .ensures .1 (λ o. (rw (c .before .before .before .access2 .given .1) at h) (sym (c .before .role-of2 .ensures) ∙ o))
+          (c .after-write .ensures .1
+          (λ o. (rw (c .before .before .before .access2 .given .1) at h) (sym (c .before .role-of2 .ensures) ∙ o))
           ∙ ap (λ (x : Role). writtenBy (a .exponent) x (c .before .before .before .access2 .given .0 .1 .0) (wireOf (a .port)))
           (c .before .role-of2 .ensures)),
     )

@@ -45,8 +45,8 @@ returns-2 c =
         transmit = c .before .before .emptied-if .ensures .0;
         receive = c .emptied-if2 .ensures .0;
         taken =
-            emptied-room b (p .commands) (c .before .before .before .none-if .result) (p .transmit) (c .before .before .emptied-if .result) none
-            (room .taken) (room .transmit) (c .before .before .emptied-if .ensures .0) l;
+            emptied-room b (p .commands) (c .before .before .before .none-if .result) (p .transmit)
+            (c .before .before .emptied-if .result) none (room .taken) (room .transmit) (c .before .before .emptied-if .ensures .0) l;
       },
       rw (ne-eqb (readField (Cr RST) v) 1 kept)
           (ap₂ (λ (x : List Item) (y : List ℕ). record { transmit = x; receive = y; t = p .t; r = p .r })

@@ -18,7 +18,8 @@ push-requires c κs =
     let c₃ = c .before .before .before in
     let c₄ = c₃ .before in
     let left =
-    place-left (c₄ .args .exponent) (c₄ .args .self) (c₄ .pre .0) (c₄ .pre .1) (sym (c₃ .is-crowded .ensures) ∙ c .before .before .if1 .left) in
+    place-left (c₄ .args .exponent) (c₄ .args .self) (c₄ .pre .0) (c₄ .pre .1)
+    (sym (c₃ .is-crowded .ensures) ∙ c .before .before .if1 .left) in
     (c₄ .pre .1 .transmit, omega (arith, left))
 
 returns-2 : tie.Need-returns-2
