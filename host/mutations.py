@@ -48,6 +48,7 @@ MUTATIONS = [
     ("flush: or for and", sub("if !status.intersects(Status::BUSY) && ", "if !status.intersects(Status::BUSY) || ")),
     ("flush: receive FIFO empty", sub("self.fifo_status().is_empty(Direction::Tx)", "self.fifo_status().is_empty(Direction::Rx)")),
     ("FSR before PARAM", swap("        let (rxcap, txcap) = ral::read_reg!(ral::lpspi, self.lpspi, PARAM, RXFIFO, TXFIFO);\n", "        let (rxcount, txcount) = ral::read_reg!(ral::lpspi, self.lpspi, FSR, RXCOUNT, TXCOUNT);\n")),
+    ("PARAM's fields change places", sub("PARAM, RXFIFO, TXFIFO);", "PARAM, TXFIFO, RXFIFO);")),
     ("DER read before IER", swap("        let ier = ral::read_reg!(ral::lpspi, self.lpspi, IER);\n", "        let der = ral::read_reg!(ral::lpspi, self.lpspi, DER);\n")),
     ("DMR1 written before DMR0", swap("        ral::write_reg!(ral::lpspi, self.lpspi, DMR0, dmr0);\n", "        ral::write_reg!(ral::lpspi, self.lpspi, DMR1, dmr1);\n")),
     ("no wait for MEN 0 in soft_reset", sub("        while self.is_enabled() {}\n", "")),

@@ -1,4 +1,6 @@
-//! Finds the original and hands it to the compiler with two lines more.
+//! Finds the original and hands it to the compiler twice: with the FIFOs' true depths
+//! in place of its two capacities (`lpspi`, which document 02, No. 5 makes the
+//! reference), and as it was published (`published`). Both have some lines more.
 //!
 //! The source is the file that `LPSPI_ORIGINAL` names (a relative path starts at
 //! this package), otherwise the one in `../shared` beside the repository. The lines
@@ -9,6 +11,8 @@
 //! `true`. A source with another sum than the pinned one is refused, unless
 //! `LPSPI_ORIGINAL_CHANGED` is `1`; that does not count where `CI` is `true`.
 
+#[path = "build/depths.rs"]
+mod depths;
 #[path = "build/pinned.rs"]
 mod pinned;
 #[path = "build/place.rs"]
@@ -30,10 +34,13 @@ fn main() {
 
     let out = PathBuf::from(env::var_os("OUT_DIR").expect("set by cargo"));
     match read(&source) {
-        Ok(Some(text)) => {
-            write_modules(text, &package.join("src"), &out).expect("OUT_DIR is writable");
-            println!("cargo::rustc-cfg=original");
-        }
+        Ok(Some(text)) => match depths::with_depths(&text) {
+            Ok(deep) => {
+                write_modules(text, deep, &package.join("src"), &out).expect("OUT_DIR is writable");
+                println!("cargo::rustc-cfg=original");
+            }
+            Err(message) => println!("cargo::error={message}"),
+        },
         Ok(None) => {}
         Err(message) => println!("cargo::error={message}"),
     }
@@ -59,13 +66,21 @@ fn read(source: &Path) -> Result<Option<String>, String> {
     Ok(Some(text))
 }
 
-/// Writes `lpspi.rs`, and `modules.rs` to include: an included file may not begin
-/// with inner doc comments, as the original does, but a module's file may.
-fn write_modules(mut original: String, src: &Path, out: &Path) -> io::Result<()> {
-    for child in ["calls", "words"] {
-        let path = src.join(child).with_extension("rs");
-        original += &format!("#[path = {path:?}] pub(crate) mod {child};\n");
+/// Writes both, and `modules.rs` to include: an included file may not begin with inner
+/// doc comments, as the original does, but a module's file may.
+fn write_modules(published: String, deep: String, src: &Path, out: &Path) -> io::Result<()> {
+    let modules: [(&str, String, &[&str]); 2] = [
+        ("lpspi", deep, &["calls", "run", "words"]),
+        ("published", published, &["calls", "run"]),
+    ];
+    let mut included = String::new();
+    for (module, mut text, children) in modules {
+        for child in children {
+            let path = src.join(child).with_extension("rs");
+            text += &format!("#[path = {path:?}] pub(crate) mod {child};\n");
+        }
+        fs::write(out.join(module).with_extension("rs"), text)?;
+        included += &format!("#[allow(dead_code)]\nmod {module};\n");
     }
-    fs::write(out.join("lpspi.rs"), original)?;
-    fs::write(out.join("modules.rs"), "#[allow(dead_code)]\nmod lpspi;\n")
+    fs::write(out.join("modules.rs"), included)
 }

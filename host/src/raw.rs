@@ -156,8 +156,8 @@ c_functions_by_width! {
 
     /// Lets events happen to a gate and an antenna: each byte is an [`Event`], modulo 9.
     /// `inplace` has a bit for each end, the gate's lowest. The ends' states go to the front
-    /// of `state`, [`PAIR_STATE`] words; what has no room is dropped. With an exponent of 0 or
-    /// 1 an end never sends a word, since its command takes a place of the transmit FIFO.
+    /// of `state`, [`PAIR_STATE`] words; what has no room is dropped. With exponent 0 an
+    /// end never sends a word, since its command takes the transmit FIFO's one place.
     ///
     /// At 9 all is as found: `state` then has no ends, and must not be read as if it had.
     /// Zeros, say, would read as Ok twice.

@@ -12,7 +12,7 @@ pub struct Board<'a, W> {
     /// Whether `read` is sent as well. `write` does not count then.
     pub in_place: bool,
     /// Both FIFOs have so many places as a power of 2, at most 4. A command takes one: with
-    /// 0 or 1 the board never sends a word.
+    /// 0 the board never sends a word.
     pub exponent: usize,
     /// Received into.
     pub read: &'a mut [W],

@@ -4,16 +4,16 @@
 use crate::raw::{self, Get};
 use crate::{Direction, Lpspi, Run, Status};
 
-/// The number of words in each FIFO, and its capacity as the driver takes it.
+/// The number of words in each FIFO, and its depth.
 #[derive(Debug, Clone, Copy, PartialEq, Eq, Default)]
 pub struct FifoStatus {
     /// Words in the receive FIFO.
     pub rxcount: u16,
     /// Words in the transmit FIFO.
     pub txcount: u16,
-    /// Capacity of the receive FIFO.
+    /// Depth of the receive FIFO.
     pub rxcap: u16,
-    /// Capacity of the transmit FIFO.
+    /// Depth of the transmit FIFO.
     pub txcap: u16,
 }
 

@@ -4,7 +4,7 @@
 mod common;
 
 use common::buslog::documented;
-use common::random_runs::{Mood, random_driver};
+use common::random_runs::{Mood, other_answers, random_driver};
 use common::registers::{FSR, SR, TCR, WRITE};
 use common::run::{Limits, MAX_BUDGET, found};
 use common::transfer::{Element, Kind, Sides, Transfer};
@@ -58,7 +58,9 @@ fn random_bills<W: Element>(random: &mut Random, kind: Kind) {
         let mood = Mood::without_errors(random);
         let answers = 16 * transfer.words() + 80;
         let script: Vec<u32> = (0..answers).map(|_| mood.answer(random)).collect();
-        let limits = Limits::new(MAX_BUDGET, &script);
+        let mut limits = Limits::new(MAX_BUDGET, &script);
+        let first = transfer.port(&limits);
+        other_answers(random, &mut limits.script, &first);
         let left = transfer.port(&limits);
         // This counts the unready polls by what their answers show.
         walk::of_transfer(&transfer, &limits, &left);

@@ -291,7 +291,7 @@ fn a_value_is_always_written() {
         (Get::Status, 0, 4, 0),
         (Get::Status, 41, 5, 0),
         (Get::SetWatermark, 20, 7, 0),
-        (Get::FifoStatus, 20, 0, 0x00FF_00FF_001F_001F),
+        (Get::FifoStatus, 20, 7, 0),
         (Get::ReadData, 20, 0, 0),
     ] {
         let limits = Limits {
@@ -324,10 +324,15 @@ fn other_values() {
     let expected = FifoStatus {
         rxcount: 4,
         txcount: 1,
-        rxcap: 3,
-        txcap: 2,
+        rxcap: 8,
+        txcap: 4,
     };
     assert_eq!(fifos, expected);
+    for (param, budget) in [(0xFFFF_0305, 20), (0xFFFF_0502, 20), (0xFF04, 1)] {
+        let (run, fifos) = fifo_status(DRIVER, budget, &[param, 0], log);
+        check(run, log, &format!("R 04 {param:X}"), "7 1 1 1EB2C3");
+        assert_eq!(fifos, FifoStatus::default());
+    }
     let (run, fifos) = fifo_status(DRIVER, 1, &[0x404, 0], log);
     check(run, log, "R 04 404", "4 1 1 1EB2C3");
     assert_eq!(fifos, FifoStatus::default());
@@ -381,7 +386,7 @@ fn commands_by_frame_size() {
 #[test]
 fn in_place_a_received_word_is_sent() {
     let log = &mut [FOUND; 80];
-    let (ready, no_space, no_word) = ([0, 0x404, 0x1_0000], [0, 0x404, 4], [0, 0x404, 0]);
+    let (ready, no_space, no_word) = ([0, 0x404, 0x1_0000], [0, 0x404, 16], [0, 0x404, 0]);
     let script = [
         &[ready, no_space, ready].concat()[..],
         &[0x55],
@@ -390,7 +395,7 @@ fn in_place_a_received_word_is_sent() {
     ]
     .concat();
     let listed = "R 14 0, R 04 404, R 5C 10000, W 60 C280003F, \
-                  R 14 0, R 04 404, R 5C 4, \
+                  R 14 0, R 04 404, R 5C 10, \
                   R 14 0, R 04 404, R 5C 10000, R 74 55, \
                   R 14 0, R 04 404, R 5C 0, \
                   R 14 0, R 04 404, R 5C 10000, W 64 55, \

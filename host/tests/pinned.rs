@@ -1,8 +1,11 @@
-//! The original is known by its SHA-256.
+//! The original is known by its SHA-256, and two of its expressions are replaced.
 
+#[path = "../original/build/depths.rs"]
+mod depths;
 #[path = "../original/build/pinned.rs"]
 mod pinned;
 
+use depths::with_depths;
 use pinned::sha256::hex;
 use pinned::{SUM, check};
 use std::fs;
@@ -50,4 +53,22 @@ fn the_source_is_the_original() {
     let source = Path::new(original::SOURCE);
     let text = fs::read(source).expect("it was there when this was built");
     assert_eq!(check(source, &text), Ok(()));
+}
+
+/// Each capacity must stand there once; nothing else changes.
+#[test]
+fn only_the_capacities_are_replaced() {
+    let text = "a\nrxcap: rxcap as u16,\nb\ntxcap: txcap as u16,\nc";
+    let deep = "a\nrxcap: 1u16.wrapping_shl(rxcap),\nb\ntxcap: 1u16.wrapping_shl(txcap),\nc";
+    assert_eq!(with_depths(text).as_deref(), Ok(deep));
+    for (capacity, others) in [("rxcap", "txcap"), ("txcap", "rxcap")] {
+        let twice = format!("{text}\n{capacity}: {capacity} as u16,");
+        let none = format!("{others}: {others} as u16,");
+        for (text, times) in [(twice, 2), (none, 0)] {
+            let message = format!(
+                "`{capacity}: {capacity} as u16,` stands in the original {times} times, and not once"
+            );
+            assert_eq!(with_depths(&text), Err(message));
+        }
+    }
 }

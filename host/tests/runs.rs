@@ -245,7 +245,7 @@ fn kinds_past_the_last() {
 #[test]
 fn flush_sees_the_receive_error_first() {
     let (rx, tx, busy) = (1 << 12, 1 << 11, 1 << 24);
-    let cases: [(&[u32], u32, usize); 7] = [
+    let cases: [(&[u32], u32, usize); 11] = [
         (&[rx | tx | busy], 2, 1),
         (&[tx | busy], 3, 1),
         (&[0, 0x404, 0], 0, 3),
@@ -253,6 +253,10 @@ fn flush_sees_the_receive_error_first() {
         (&[0, 0, 1, rx], 2, 4),
         (&[busy, busy], 4, 2),
         (&[0, 0], 4, 2),
+        (&[0, 5], 7, 2),
+        (&[busy, 0, 0x500, 0], 7, 3),
+        (&[tx, 5], 3, 1),
+        (&[0, 0, 1, 0, 0xFFFF_FF00], 7, 5),
     ];
     for (script, number, accesses) in cases {
         let run = flush(Lpspi::default(), 10, script, &mut found(20));

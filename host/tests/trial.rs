@@ -108,22 +108,22 @@ fn one_says_so() {
 }
 
 /// After so many accesses, with an exponent: the commands and words queued. A command
-/// takes a place, so that an exponent of 1 leaves none for a word, and 0 none for it.
+/// takes a place, so that an exponent of 0 leaves none for a word.
 #[test]
 fn a_command_takes_a_place() {
     let queued = |exponent, steps: &str| {
-        let (mut gate, mut antenna) = ([0; 9], [0; 9]);
+        let (mut gate, mut antenna) = ([0; 80], [0; 80]);
         let [gate, antenna] =
-            [&mut gate, &mut antenna].map(|read| separate(read, b"123456789", exponent));
+            [&mut gate, &mut antenna].map(|read| separate(read, &[b'1'; 80], exponent));
         let left = trial(gate, antenna, &events(steps)).expect("a pair");
         (left.gate.commands(), left.gate.to_send().len())
     };
-    let many = "g".repeat(60);
-    assert_eq!(queued(0, &many), (0, 0));
-    assert_eq!(queued(1, &many), (1, 0));
-    assert_eq!(queued(2, &many), (1, 1));
-    assert_eq!(queued(3, &many), (1, 2));
-    assert_eq!(queued(4, &many), (1, 3));
+    let many = "g".repeat(90);
+    assert_eq!(queued(0, &many), (1, 0));
+    assert_eq!(queued(1, &many), (1, 1));
+    assert_eq!(queued(2, &many), (1, 3));
+    assert_eq!(queued(3, &many), (1, 7));
+    assert_eq!(queued(4, &many), (1, 15));
     assert_eq!(queued(4, "ggg"), (0, 0));
     assert_eq!(queued(4, "gggg"), (1, 0));
     assert_eq!(queued(4, "gggggggg"), (1, 1));

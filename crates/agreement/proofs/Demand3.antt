@@ -1,6 +1,6 @@
 -- DEMAND 3, whole: of every pair of boards that fit, every list of events from fresh.
 -- Assumes nothing.
-use Prim.Native.Nat.{ℕ, zero, suc, _+_, _*_, _^_, _<_, _≤_}
+use Prim.Native.Nat.{ℕ, _+_, _*_, _^_, _<_}
 use mathlib.Core.Bool.{Bool, true, false, _||_}
 use mathlib.Core.List.{List, [], _∷_, _++_}
 use mathlib.Core.Path.{_≡_, refl, sym, ap, ap₂, _∙_, subst}
@@ -36,12 +36,6 @@ after-more : (j k : Job) (p : Pair) (vs ws : List Event) → after j k p (vs ++ 
 unfolding after
 after-more j k p [] ws = refl
 after-more j k p (v ∷ vs) ws = after-more j k (happened j k p v) vs ws
-
--- FIFOs that hold more than two words
-more-than-two : (e : ℕ) → 2 < 2 ^ e → 1 < e
-more-than-two zero h = absurd (omega arith)
-more-than-two (suc zero) h = absurd (omega arith)
-more-than-two (suc (suc e)) h = omega arith
 
 -- the words of one board are those that the other unpacks
 same-words : (g a : Start) → Fit g a
@@ -149,9 +143,9 @@ module _ (g a : Start) (f : Fit g a) (vs : List Event) where
       (x .transfer .work) (x .transfer .reset) (x .flush) (x .received) (x .wire) i (k .1 .antenna .now) h in
       (same-accepted g a f ∙ r .0, subst (λ (m : ℕ). length (x .received) < m) (sym (same-count g a f)) (r .1))
 
-  -- and one is sent only while some are to go, and never with an exponent of at most 1
+  -- and one is sent only while some are to go, and never with exponent 0
   pub gate-sends : (i : ℕ) → dueAccess (after-all .gate .transfer) ≡ Send i
-      → (accepted g ≡ true) × (i < frameWords g) × (1 < g .board .exponent)
+      → (accepted g ≡ true) × (i < frameWords g) × (0 < g .board .exponent)
   gate-sends i h =
       let k = known in
       let x = after-all .gate in
@@ -160,7 +154,7 @@ module _ (g a : Start) (f : Fit g a) (vs : List Event) where
       (k .1 .gate .now) h
 
   pub antenna-sends : (i : ℕ) → dueAccess (after-all .antenna .transfer) ≡ Send i
-      → (accepted a ≡ true) × (i < frameWords a) × (1 < a .board .exponent)
+      → (accepted a ≡ true) × (i < frameWords a) × (0 < a .board .exponent)
   antenna-sends i h =
       let k = known in
       let x = after-all .antenna in
@@ -169,37 +163,35 @@ module _ (g a : Start) (f : Fit g a) (vs : List Event) where
       (x .transfer .work) (x .transfer .reset) (x .flush) (x .received) (x .wire) i (k .1 .antenna .now) h in
       (same-accepted g a f ∙ r .0, subst (λ (m : ℕ). i < m) (sym (same-count g a f)) (r .1), r .2)
 
-  -- A COMMAND IS ONLY EVER WRITTEN INTO AN EMPTY QUEUE, and never with exponent 0
+  -- A COMMAND IS ONLY EVER WRITTEN INTO AN EMPTY QUEUE
   pub gate-command-first : (v : ℕ) → dueAccess (after-all .gate .transfer) ≡ Write TCR v
-      → (after-all .gate .wire .transmit ≡ []) × (0 < g .board .exponent)
+      → after-all .gate .wire .transmit ≡ []
   gate-command-first v h =
       let k = known in
       let x = after-all .gate in
-      let r =
-      command-alone n accepts (job g) (own (job a)) (k .0) (k .0) (tally Antenna g a vs .madeUp) (tally Gate g a vs)
+      nil-of (x .wire .transmit)
+      (command-alone n accepts (job g) (own (job a)) (k .0) (k .0) (tally Antenna g a vs .madeUp) (tally Gate g a vs)
       (x .transfer .phase) (x .transfer .work) (x .transfer .reset) (x .flush) (x .received) (x .wire) v
-      (k .1 .gate .now) h in
-      (nil-of (x .wire .transmit) (r .0), r .1)
+      (k .1 .gate .now) h)
 
   pub antenna-command-first : (v : ℕ) → dueAccess (after-all .antenna .transfer) ≡ Write TCR v
-      → (after-all .antenna .wire .transmit ≡ []) × (0 < a .board .exponent)
+      → after-all .antenna .wire .transmit ≡ []
   antenna-command-first v h =
       let k = known in
       let x = after-all .antenna in
-      let r =
-      command-alone n accepts (job a) (own (job g)) (k .0) (k .0) 0 (tally Antenna g a vs) (x .transfer .phase)
-      (x .transfer .work) (x .transfer .reset) (x .flush) (x .received) (x .wire) v (k .1 .antenna .now) h in
-      (nil-of (x .wire .transmit) (r .0), r .1)
+      nil-of (x .wire .transmit)
+      (command-alone n accepts (job a) (own (job g)) (k .0) (k .0) 0 (tally Antenna g a vs) (x .transfer .phase)
+      (x .transfer .work) (x .transfer .reset) (x .flush) (x .received) (x .wire) v (k .1 .antenna .now) h)
 
-  -- THE BOUND OF (c) IS SHARP: with an exponent of at most 1 a transfer answers Ok only where there is no word to send
-  pub gate-shallow : g .board .exponent ≤ 1 → dueAccess (after-all .gate .transfer) ≡ Done Ok → frameWords g ≡ 0
+  -- THE BOUND OF (c) IS SHARP: with exponent 0 a transfer answers Ok only where there is no word to send
+  pub gate-shallow : g .board .exponent ≡ 0 → dueAccess (after-all .gate .transfer) ≡ Done Ok → frameWords g ≡ 0
   gate-shallow l h =
       let k = known in
       let x = after-all .gate in
       shallow-empty n accepts (job g) (own (job a)) (k .0) (k .0) (tally Antenna g a vs .madeUp) (tally Gate g a vs)
       (x .transfer .phase) (x .transfer .work) (x .transfer .reset) (x .flush) (x .received) (x .wire) (k .1 .gate .now) h l
 
-  pub antenna-shallow : a .board .exponent ≤ 1 → dueAccess (after-all .antenna .transfer) ≡ Done Ok → frameWords a ≡ 0
+  pub antenna-shallow : a .board .exponent ≡ 0 → dueAccess (after-all .antenna .transfer) ≡ Done Ok → frameWords a ≡ 0
   antenna-shallow l h =
       let k = known in
       let x = after-all .antenna in
@@ -210,14 +202,14 @@ module _ (g a : Start) (f : Fit g a) (vs : List Event) where
 -- (c)
 pub finishes : (g a : Start) → unfit g a ≡ false → (vs : List Event)
     → tally Gate g a vs .flags + tally Antenna g a vs .flags ≡ 0 → accepted g ≡ true
-    → 2 < 2 ^ (g .board .exponent) → 2 < 2 ^ (a .board .exponent) → Finish g a vs
+    → 1 < 2 ^ (g .board .exponent) → 1 < 2 ^ (a .board .exponent) → Finish g a vs
 finishes g a fits vs calm ok eg ea =
     let f = fit g a fits in
     let k = known g a f vs in
     let r =
     finish (frameWords g) (accepted g) (job g) (job a) (f .gateSmall) (f .antennaSmall) (keeps g) (keeps a) (tally Gate g a vs)
     (tally Antenna g a vs) ok
-    (more-than-two (g .board .exponent) eg) (more-than-two (a .board .exponent) ea) (omega (arith, calm)) (omega (arith, calm))
+    eg ea (omega (arith, calm)) (omega (arith, calm))
     (frameWords g) (k .0) (pairAfter g a vs) (omega arith) (k .1) in
     record {
       more = r .events;

@@ -9,9 +9,8 @@ use lib.Dec.{T, eqb, ltb}
 use lib.ListN.{length, getD}
 use borrow.Author.Tests.{ltb-true, ltb-false, eqb-true, lt-leb}
 use Rattle.manual.specs.declared.Cr.the-variants.{RST, RTF, RRF}
-use Rattle.manual.specs.declared.Field.the-variants.{Cr, Sr, Fsr, Param}
+use Rattle.manual.specs.declared.Field.the-variants.{Cr, Sr, Fsr}
 use Rattle.manual.specs.declared.Fsr.the-variants.{TXCOUNT, RXCOUNT}
-use Rattle.manual.specs.declared.Param.the-variants.{TXFIFO}
 use Rattle.manual.specs.declared.Register.{Register}
 use Rattle.manual.specs.declared.Register.the-variants.{PARAM, SR, FSR, TCR}
 use Rattle.manual.specs.declared.Sr.the-variants.{TEF, REF, MBF}
@@ -37,6 +36,7 @@ use Rattle.machine.specs.declared.transfer.Stage.the-variants.{Space, Command, 
 use Rattle.machine.specs.declared.transfer.Work.{Work}
 use Rattle.machine.specs.Flush.{flushAccess, flushed}
 use Rattle.machine.specs.Poll.{failed, ready}
+use Rattle.sequences.specs.Sequence.{tooDeep, depthOf}
 use Rattle.sequences.specs.Recovery.{recoveryAccess, recoveryAfter, recovered}
 use Rattle.machine.specs.Transfer.{at, sendTurn, receiveTurn, oneSent, oneReceived, counted}
 use Rattle.machine.specs.Transfer.{spaceBy, sendingBy, receivingBy, dueAccess, resumed}
@@ -52,7 +52,7 @@ use Rattle.agreement.specs.End.{roleOf, placeOf, shows, readBy}
 use Rattle.agreement.specs.End.{writtenBy, answerTo, wireAfter, freshWire, End, end, firstDue, endAccess, stepped}
 use Rattle.agreement.specs.Tally.{Tally, nothing, overrun, overrunBy}
 use Rattle.agreement.specs.Agreement.{OkTwice, Emptied, seen}
-use Rattle.agreement.proofs.ShownLaws.{shows-t, shows-r, shows-exponent, shows-transmit, shows-receive}
+use Rattle.agreement.proofs.ShownLaws.{shows-t, shows-r, shows-fit, shows-depth, shows-transmit, shows-receive}
 use Rattle.agreement.proofs.ShownLaws.{below-capacity, capacity-small}
 use Rattle.agreement.proofs.WordLists.{from, length-snoc, snoc-is, uncons, length-behind, emptied-less}
 use Rattle.agreement.proofs.WordLists.{emptied-is, lowered-set, false-true, nil-of, all-from}
@@ -126,18 +126,18 @@ module _ (n : ℕ) (accepts : Bool) (j : Job) (other : ℕ → ℕ) where
     pub inEq : length rs + length (w .receive) + τ .lost ≡ c
     pub outEq : t + length (wordsIn (w .transmit)) ≡ k .sent + τ .madeUp
     pub most : k .sent ≤ n
-    -- a command stands before every word, and waits for the first; with an exponent of at most 1 no word follows it
+    -- a command stands before every word, and waits for the first; with exponent 0 no word follows it
     pub first : AtFront (w .transmit)
     pub unsent : length (wordsIn (w .transmit)) < length (w .transmit) → (k .sent ≡ length (wordsIn (w .transmit))) × (0 < n)
-    pub shallow : j .exponent ≤ 1 → k .sent ≡ 0
+    pub shallow : j .exponent ≡ 0 → k .sent ≡ 0
     pub rxIs : τ .lost ≡ 0 → m ≡ 0 → w .receive ≡ from other (length rs) (length (w .receive))
     pub gotIs : τ .lost ≡ 0 → m ≡ 0 → rs ≡ from other 0 (length rs)
 
-  -- a poll that has read PARAM knows the exponent
+  -- a poll that has read PARAM knows the depth
   abbrev pub Asked : Poll → Type 0
   Asked Status = Unit {0}
   Asked Sizes = Unit {0}
-  Asked (Counts v) = readField (Param TXFIFO) v ≡ j .exponent
+  Asked (Counts v) = depthOf Tx v ≡ 2 ^ j .exponent
 
   -- the transfer has answered Ok
   abbrev pub NowFlush : Flush → ℕ → ℕ → ℕ → Tally → Work → List ℕ → Wire → Type 0
@@ -157,9 +157,10 @@ module _ (n : ℕ) (accepts : Bool) (j : Job) (other : ℕ → ℕ) where
   Now (Space q) f t c m τ k rs w =
       Core t c m τ k rs w × (f ≡ FlushStatus) × Asked q × (k .sent < n) × (k .sent ≡ 0) × (length (w .transmit) ≡ 0)
   Now Command f t c m τ k rs w =
-      Core t c m τ k rs w × (f ≡ FlushStatus) × (k .sent < n) × (k .sent ≡ 0) × (length (w .transmit) ≡ 0) × (0 < j .exponent)
+      Core t c m τ k rs w × (f ≡ FlushStatus) × (k .sent < n) × (k .sent ≡ 0) × (length (w .transmit) ≡ 0)
   Now (Sending q) f t c m τ k rs w = Core t c m τ k rs w × (f ≡ FlushStatus) × Asked q × (k .sent < n) × Begun k w
-  Now Send f t c m τ k rs w = Core t c m τ k rs w × (f ≡ FlushStatus) × (k .sent < n) × (length (w .transmit) < j .exponent) × Begun k w
+  Now Send f t c m τ k rs w =
+      Core t c m τ k rs w × (f ≡ FlushStatus) × (k .sent < n) × (length (w .transmit) < 2 ^ j .exponent) × Begun k w
   Now (Receiving q) f t c m τ k rs w = Core t c m τ k rs w × (f ≡ FlushStatus) × (length rs < n) × Begun k w
   Now Receive f t c m τ k rs w = Core t c m τ k rs w × (f ≡ FlushStatus) × (length rs < n) × (0 < length (w .receive)) × Begun k w
   Now (Recovery d) f t c m τ k rs w = 0 < τ .flags
@@ -266,7 +267,7 @@ module _ (n : ℕ) (accepts : Bool) (j : Job) (other : ℕ → ℕ) where
     abbrev pub pushed : List ℕ → Work → Wire → Wire
     pushed rs k w = queues (w .transmit ++ (Word (j .words rs (k .sent)) ∷ [])) (w .receive) w
 
-    pub core-send : (k : Work) (rs : List ℕ) (w : Wire) → Core c c m τ k rs w → k .sent < n → length (w .transmit) < j .exponent
+    pub core-send : (k : Work) (rs : List ℕ) (w : Wire) → Core c c m τ k rs w → k .sent < n → length (w .transmit) < 2 ^ j .exponent
         → Begun k w → Core c c m τ (oneSent k) rs (pushed rs k w)
     core-send k rs w x l f b =
         let v = j .words rs (k .sent) in
@@ -283,19 +284,19 @@ module _ (n : ℕ) (accepts : Bool) (j : Job) (other : ℕ → ℕ) where
           first = front-snoc (w .transmit) v (x .first);
           unsent = λ h.
               let z = x .unsent (omega (arith, h, more, length-snoc (w .transmit) (Word v))) in (omega (arith, up, z .0, more), z .1);
-          shallow = λ h. let z = b (x .shallow h) in absurd (omega (arith, z));
+          shallow = λ h. let z = b (x .shallow h) in absurd (omega (arith, z, ap (λ (e : ℕ). 2 ^ e) h));
           rxIs = x .rxIs;
           gotIs = x .gotIs;
         }
 
-    pub base-send : (k : Work) (rs : List ℕ) (w : Wire) → Core c c m τ k rs w → k .sent < n → length (w .transmit) < j .exponent
+    pub base-send : (k : Work) (rs : List ℕ) (w : Wire) → Core c c m τ k rs w → k .sent < n → length (w .transmit) < 2 ^ j .exponent
         → Base c τ w → Base c τ (pushed rs k w)
     base-send k rs w x l f B =
         let v = j .words rs (k .sent) in
         let words = wordsIn (w .transmit) in
         record {
           small = B .small;
-          capT = omega (arith, length-snoc (w .transmit) (Word v), below-capacity (j .exponent));
+          capT = omega (arith, length-snoc (w .transmit) (Word v));
           capR = B .capR;
           room = omega (arith, more-words (w .transmit) v, x .outEq);
           txIs = λ h.
@@ -445,6 +446,13 @@ module _ (n : ℕ) (accepts : Bool) (j : Job) (other : ℕ → ℕ) where
     shown-r : (busy : Bool) (w : Wire) (g : List ℕ) → failed Rx (shows (j .exponent) busy w g SR) ≡ w .r
     shown-r busy w g = shows-r (j .exponent) busy w (getD g (placeOf SR) 0)
 
+    -- PARAM shows no exponent over 4, and the capacity
+    pub shown-fit : (busy : Bool) (w : Wire) (g : List ℕ) → tooDeep (shows (j .exponent) busy w g PARAM) ≡ false
+    shown-fit busy w g = shows-fit (j .exponent) busy w (getD g (placeOf PARAM) 0) small-e
+
+    pub shown-depth : (busy : Bool) (w : Wire) (g : List ℕ) → depthOf Tx (shows (j .exponent) busy w g PARAM) ≡ 2 ^ j .exponent
+    shown-depth busy w g = shows-depth (j .exponent) busy w (getD g (placeOf PARAM) 0) small-e
+
     pub shown-transmit : (busy : Bool) (w : Wire) (g : List ℕ) → Base c τ w
         → readField (Fsr TXCOUNT) (shows (j .exponent) busy w g FSR) ≡ length (w .transmit)
     shown-transmit busy w g B =
@@ -474,7 +482,7 @@ module _ (n : ℕ) (accepts : Bool) (j : Job) (other : ℕ → ℕ) where
           (λ h′. (N .0, N .1, N .2, B .setT (sym (shown-t y w g) ∙ h′)))
           (λ h′. now-flush (eqb (readField (Sr MBF) v) 1) FlushStatus FlushSizes k rs w (λ h″. N) (λ h″. N)));
     }
-    keep-flush y k q FlushSizes rs w g B N = record { base = B; now = N }
+    keep-flush y k q FlushSizes rs w g B N = rw (shown-fit y w g) (record { base = B; now = N })
     keep-flush y k q FlushCounts rs w g B N = record {
       base = B;
       now =
@@ -520,14 +528,12 @@ module _ (n : ℕ) (accepts : Bool) (j : Job) (other : ℕ → ℕ) where
           (λ h. B .setT (sym (shown-t y w g) ∙ h)) (λ h. N);
     }
     keep-step y (Space Sizes) k q f rs w g B N =
-        record { base = B; now = (N .0, N .1, shows-exponent (j .exponent) y w (getD g (placeOf PARAM) 0) small-e, N .3, N .4, N .5) }
+        rw (shown-fit y w g) (record { base = B; now = (N .0, N .1, shown-depth y w g, N .3, N .4, N .5) })
     keep-step y (Space (Counts v)) k q f rs w g B N = record {
       base = B;
       now =
-          let counted = readField (Fsr TXCOUNT) (shows (j .exponent) y w g FSR) in
           now-polled spaceBy (ready Tx v (shows (j .exponent) y w g FSR)) Ready Unready f k rs w
-          (λ h. (N .0, N .1, N .3, N .4, N .5, omega (arith, ltb-true counted (readField (Param TXFIFO) v) h, N .2)))
-          (λ h. (N .0, N .1, tt, N .3, N .4, N .5));
+          (λ h. (N .0, N .1, N .3, N .4, N .5)) (λ h. (N .0, N .1, tt, N .3, N .4, N .5));
     }
     keep-step y Command k q f rs w g B N =
         rw (not-full (w .transmit) (omega (arith, below-capacity (j .exponent), N .4)))
@@ -544,17 +550,17 @@ module _ (n : ℕ) (accepts : Bool) (j : Job) (other : ℕ → ℕ) where
           (λ h. B .setT (sym (shown-t y w g) ∙ h)) (λ h. N);
     }
     keep-step y (Sending Sizes) k q f rs w g B N =
-        record { base = B; now = (N .0, N .1, shows-exponent (j .exponent) y w (getD g (placeOf PARAM) 0) small-e, N .3, N .4) }
+        rw (shown-fit y w g) (record { base = B; now = (N .0, N .1, shown-depth y w g, N .3, N .4) })
     keep-step y (Sending (Counts v)) k q f rs w g B N = record {
       base = B;
       now =
           let counted = readField (Fsr TXCOUNT) (shows (j .exponent) y w g FSR) in
           now-polled (sendingBy k) (ready Tx v (shows (j .exponent) y w g FSR)) Ready Unready f k rs w
-          (λ h. (N .0, N .1, N .3, omega (arith, shown-transmit y w g B, ltb-true counted (readField (Param TXFIFO) v) h, N .2), N .4))
+          (λ h. (N .0, N .1, N .3, omega (arith, shown-transmit y w g B, ltb-true counted (depthOf Tx v) h, N .2), N .4))
           (λ h. now-receive-turn f k rs w (B .small) (N .1) (N .0) (N .4));
     }
     keep-step y Send k q f rs w g B N =
-        rw (not-full (w .transmit) (omega (arith, below-capacity (j .exponent), N .3)))
+        rw (not-full (w .transmit) (N .3))
         (record {
           base = base-send k rs w (N .0) (N .2) (N .3) B;
           now =
@@ -567,7 +573,7 @@ module _ (n : ℕ) (accepts : Bool) (j : Job) (other : ℕ → ℕ) where
           now-polled (receivingBy k) (failed Rx (shows (j .exponent) y w g SR)) Failed (Next Sizes) f k rs w
           (λ h. B .setR (sym (shown-r y w g) ∙ h)) (λ h. N);
     }
-    keep-step y (Receiving Sizes) k q f rs w g B N = record { base = B; now = N }
+    keep-step y (Receiving Sizes) k q f rs w g B N = rw (shown-fit y w g) (record { base = B; now = N })
     keep-step y (Receiving (Counts v)) k q f rs w g B N = record {
       base = B;
       now =
@@ -609,7 +615,7 @@ module _ (n : ℕ) (accepts : Bool) (j : Job) (other : ℕ → ℕ) where
   no-overrun t c m τ (Sending Status) k q f rs w N = refl
   no-overrun t c m τ (Sending Sizes) k q f rs w N = refl
   no-overrun t c m τ (Sending (Counts v)) k q f rs w N = refl
-  no-overrun t c m τ Send k q f rs w N = not-full (w .transmit) (omega (arith, below-capacity (j .exponent), N .3))
+  no-overrun t c m τ Send k q f rs w N = not-full (w .transmit) (N .3)
   no-overrun t c m τ (Receiving Status) k q f rs w N = refl
   no-overrun t c m τ (Receiving Sizes) k q f rs w N = refl
   no-overrun t c m τ (Receiving (Counts v)) k q f rs w N = refl
@@ -639,7 +645,7 @@ module _ (n : ℕ) (accepts : Bool) (j : Job) (other : ℕ → ℕ) where
       → length (w′ .transmit) ≤ length (w .transmit) → length (w .receive) ≤ length (w′ .receive) → τ .flags ≤ τ′ .flags
       → Now p f t c m τ k rs w → Now p f t′ c′ m′ τ′ k rs w′
   now-stays (Space q) f g e a b d N = (g (N .0), N .1, N .2, N .3, N .4, omega (arith, N .5))
-  now-stays Command f g e a b d N = (g (N .0), N .1, N .2, N .3, omega (arith, N .4), N .5)
+  now-stays Command f g e a b d N = (g (N .0), N .1, N .2, N .3, omega (arith, N .4))
   now-stays (Sending q) f g e a b d N = (g (N .0), N .1, N .2, N .3, e (N .0) (N .4))
   now-stays Send f g e a b d N = (g (N .0), N .1, N .2, omega (arith, N .3), e (N .0) (N .4))
   now-stays (Receiving q) f g e a b d N = (g (N .0), N .1, N .2, e (N .0) (N .3))
@@ -674,10 +680,10 @@ module _ (n : ℕ) (accepts : Bool) (j : Job) (other : ℕ → ℕ) where
   receives-below t c m τ (Recovery d) k q f rs w i N h = absurd (not-quiet (recoveryAccess q) (recovery-quiet q) h)
   receives-below t c m τ (Ended x) k q f rs w i N h = absurd (not-done h)
 
-  -- A WORD IS SENT only while some are to go, in a transfer that was accepted, and never with an exponent of at most 1
+  -- A WORD IS SENT only while some are to go, in a transfer that was accepted, and never with exponent 0
   pub sends-below : (t c m : ℕ) (τ : Tally) (p : Stage) (k : Work) (q : Sequence) (f : Flush) (rs : List ℕ) (w : Wire) (i : ℕ)
       → Now p f t c m τ k rs w → dueAccess (at p k q) ≡ SendWord i
-      → (accepts ≡ true) × (i < n) × (1 < j .exponent)
+      → (accepts ≡ true) × (i < n) × (0 < j .exponent)
   unfolding dueAccess place
   sends-below t c m τ (Space Status) k q f rs w i N h = absurd (read-sends h)
   sends-below t c m τ (Space Sizes) k q f rs w i N h = absurd (read-sends h)
@@ -687,12 +693,11 @@ module _ (n : ℕ) (accepts : Bool) (j : Job) (other : ℕ → ℕ) where
   sends-below t c m τ (Sending Sizes) k q f rs w i N h = absurd (read-sends h)
   sends-below t c m τ (Sending (Counts v)) k q f rs w i N h = absurd (read-sends h)
   sends-below t c m τ Send k q f rs w i N h =
-      (N .0 .yes, subst (λ (a : Access). place a < n) h (N .2), above-one (j .exponent) (N .0 .shallow) (N .3) (N .4))
+      (N .0 .yes, subst (λ (a : Access). place a < n) h (N .2), above-zero (j .exponent) (N .0 .shallow) (N .3) (N .4))
     where
-      above-one : (e : ℕ) {l s : ℕ} → (e ≤ 1 → s ≡ 0) → l < e → (s ≡ 0 → 0 < l) → 1 < e
-      above-one zero a b d = absurd (omega arith)
-      above-one (suc zero) a b d = let z = d (a (omega arith)) in absurd (omega (arith, z))
-      above-one (suc (suc e)) a b d = omega arith
+      above-zero : (e : ℕ) {l s : ℕ} → (e ≡ 0 → s ≡ 0) → l < 2 ^ e → (s ≡ 0 → 0 < l) → 0 < e
+      above-zero zero a b d = let z = d (a refl) in absurd (omega (arith, z))
+      above-zero (suc e) a b d = omega arith
   sends-below t c m τ (Receiving Status) k q f rs w i N h = absurd (read-sends h)
   sends-below t c m τ (Receiving Sizes) k q f rs w i N h = absurd (read-sends h)
   sends-below t c m τ (Receiving (Counts v)) k q f rs w i N h = absurd (read-sends h)
@@ -700,15 +705,15 @@ module _ (n : ℕ) (accepts : Bool) (j : Job) (other : ℕ → ℕ) where
   sends-below t c m τ (Recovery d) k q f rs w i N h = absurd (quiet-sends (recoveryAccess q) (recovery-quiet q) h)
   sends-below t c m τ (Ended x) k q f rs w i N h = absurd (done-sends h)
 
-  -- A COMMAND IS WRITTEN only where nothing is queued, and never with exponent 0
+  -- A COMMAND IS WRITTEN only where nothing is queued
   pub command-alone : (t c m : ℕ) (τ : Tally) (p : Stage) (k : Work) (q : Sequence) (f : Flush) (rs : List ℕ) (w : Wire) (v : ℕ)
       → Now p f t c m τ k rs w → dueAccess (at p k q) ≡ Write TCR v
-      → (length (w .transmit) ≡ 0) × (0 < j .exponent)
+      → length (w .transmit) ≡ 0
   unfolding dueAccess
   command-alone t c m τ (Space Status) k q f rs w v N h = absurd (read-writes h)
   command-alone t c m τ (Space Sizes) k q f rs w v N h = absurd (read-writes h)
   command-alone t c m τ (Space (Counts x)) k q f rs w v N h = absurd (read-writes h)
-  command-alone t c m τ Command k q f rs w v N h = (N .4, N .5)
+  command-alone t c m τ Command k q f rs w v N h = N .4
   command-alone t c m τ (Sending Status) k q f rs w v N h = absurd (read-writes h)
   command-alone t c m τ (Sending Sizes) k q f rs w v N h = absurd (read-writes h)
   command-alone t c m τ (Sending (Counts x)) k q f rs w v N h = absurd (read-writes h)
@@ -720,9 +725,9 @@ module _ (n : ℕ) (accepts : Bool) (j : Job) (other : ℕ → ℕ) where
   command-alone t c m τ (Recovery d) k q f rs w v N h = absurd (subst (λ (x : Access). Quiet x) h (recovery-quiet q))
   command-alone t c m τ (Ended x) k q f rs w v N h = absurd (done-writes h)
 
-  -- A TRANSFER HAS ANSWERED OK only where all words were sent, and so never with an exponent of at most 1 where there is one
+  -- A TRANSFER HAS ANSWERED OK only where all words were sent, and so never with exponent 0 where there is one
   flush-sent : (t c m : ℕ) (τ : Tally) (k : Work) (f : Flush) (rs : List ℕ) (w : Wire) → NowFlush f t c m τ k rs w
-      → (k .sent ≡ n) × (j .exponent ≤ 1 → k .sent ≡ 0)
+      → (k .sent ≡ n) × (j .exponent ≡ 0 → k .sent ≡ 0)
   flush-sent t c m τ k FlushStatus rs w N = (N .1, N .0 .shallow)
   flush-sent t c m τ k FlushSizes rs w N = (N .1, N .0 .shallow)
   flush-sent t c m τ k FlushCounts rs w N = (N .1, N .0 .shallow)
@@ -735,7 +740,7 @@ module _ (n : ℕ) (accepts : Bool) (j : Job) (other : ℕ → ℕ) where
   flush-sent t c m τ k (Flushed FifoExponent) rs w N = absurd N
 
   pub shallow-empty : (t c m : ℕ) (τ : Tally) (p : Stage) (k : Work) (q : Sequence) (f : Flush) (rs : List ℕ) (w : Wire)
-      → Now p f t c m τ k rs w → dueAccess (at p k q) ≡ Done Ok → j .exponent ≤ 1 → n ≡ 0
+      → Now p f t c m τ k rs w → dueAccess (at p k q) ≡ Done Ok → j .exponent ≡ 0 → n ≡ 0
   shallow-empty t c m τ p k q f rs w N h l =
       let r = flush-sent t c m τ k f rs w (subst (λ (x : Stage). Now x f t c m τ k rs w) (done-phase p k q Ok h) N) in
       sym (r .0) ∙ r .1 l

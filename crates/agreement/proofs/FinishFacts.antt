@@ -70,7 +70,8 @@ module _ (n : ℕ) (accepts : Bool) (jg ja : Job) (small-g : jg .exponent ≤ 4)
       antenna-steps i c x (stepped ja false y)
       (both-antenna-step n accepts jg ja small-g small-a keeps-g keeps-a c σ τ (pair x y) false b)
 
-  module _ (a : accepts ≡ true) (pos-g : 1 < jg .exponent) (pos-a : 1 < ja .exponent) (calm-g : σ .flags ≡ 0) (calm-a : τ .flags ≡ 0) where
+  module _ (a : accepts ≡ true) (pos-g : 1 < 2 ^ jg .exponent) (pos-a : 1 < 2 ^ ja .exponent) (calm-g : σ .flags ≡ 0)
+      (calm-a : τ .flags ≡ 0) where
     -- both have settled: both are over, or both wait for a clock
     settled : (c : ℕ) (x y : End) → Bo c (pair x y) → Settled n c x → Settled n c y
         → (c < n → length (x .wire .receive) ≡ 0 → length (y .wire .receive) ≡ 0 → 0 < length (wordsIn (x .wire .transmit))

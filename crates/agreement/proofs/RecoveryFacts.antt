@@ -13,7 +13,7 @@ use Rattle.sequences.specs.declared.sequence.Change.{Change}
 use Rattle.sequences.specs.declared.sequence.Change.the-variants.{Reset, Release, ClearFifos, ClearFifo, Enable, Restore, Controller}
 use Rattle.sequences.specs.declared.sequence.Change.the-variants.{HalfFull, Watermark, Sample, Peripheral, Polarity}
 use Rattle.sequences.specs.declared.sequence.Move.{Move}
-use Rattle.sequences.specs.declared.sequence.Move.the-variants.{Keep, KeepClock, Look, Wait, WaitClock, Size, Arrived}
+use Rattle.sequences.specs.declared.sequence.Move.the-variants.{Keep, KeepClock, Look, Wait, WaitClock, Size, Sizes, Arrived}
 use Rattle.sequences.specs.declared.sequence.Move.the-variants.{Modify, Set, Write as WriteWord, Put, End}
 use Rattle.sequences.specs.declared.sequence.Sequence.{Sequence}
 use Rattle.sequences.specs.Recovery.{recovery, recoveryMove, recoveryAccess}
@@ -54,6 +54,7 @@ quietMove (Look r) = true
 quietMove Wait = true
 quietMove (WaitClock c) = true
 quietMove (Size d) = true
+quietMove Sizes = true
 quietMove Arrived = true
 quietMove (Modify c) = true
 quietMove (Set c) = true
@@ -83,6 +84,7 @@ move-quiet (Look r) s h = tt
 move-quiet Wait s h = tt
 move-quiet (WaitClock c) s h = tt
 move-quiet (Size d) s h = tt
+move-quiet Sizes s h = tt
 move-quiet Arrived s h = tt
 move-quiet (Modify c) s h = change-silent c
 move-quiet (Set c) s h = change-silent c

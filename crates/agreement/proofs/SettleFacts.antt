@@ -9,10 +9,9 @@ use native.Mathlib.Omega.{arith}
 use lib.Dec.{ltb}
 use lib.ListN.{length, getD}
 use borrow.Author.Tests.{ltb-true, ltb-false, lt-ltb, le-ltb, eq-eqb, lt-leb}
-use Rattle.manual.specs.declared.Field.the-variants.{Param}
-use Rattle.manual.specs.declared.Param.the-variants.{TXFIFO}
 use Rattle.manual.specs.declared.Register.the-variants.{PARAM, SR, TCR}
-use Rattle.manual.specs.Manual.{readField}
+use Rattle.words.specs.declared.transaction.Direction.the-variants.{Tx}
+use Rattle.sequences.specs.Sequence.{tooDeep, depthOf}
 use Rattle.words.specs.declared.transaction.LpspiError.the-variants.{FrameSize, Fifo}
 use Rattle.sequences.specs.declared.access.Access.the-variants.{Write}
 use Rattle.sequences.specs.declared.access.Ending.the-variants.{Ok, Err, Stopped, Limits, ZeroClock, FifoExponent}
@@ -31,10 +30,10 @@ use Rattle.agreement.specs.End.{Command as aCommand, Wire, queues, words
 use Rattle.agreement.specs.End.{registersAfter, End, end, stepped}
 use Rattle.agreement.specs.Tally.{Tally}
 use Rattle.agreement.specs.Agreement.{OkTwice, seen}
-use Rattle.agreement.proofs.ShownLaws.{shows-t, shows-r, shows-busy, shows-exponent, below-capacity}
+use Rattle.agreement.proofs.ShownLaws.{shows-t, shows-r, shows-busy, below-capacity}
 use Rattle.agreement.proofs.WordLists.{length-snoc, length-behind}
 use Rattle.agreement.proofs.QueueLaws.{one-command, more-words}
-use Rattle.agreement.proofs.EndFacts.{Keeps, Begun, Core, Now, NowFlush, Base, shown-transmit, shown-receive}
+use Rattle.agreement.proofs.EndFacts.{Keeps, Begun, Core, Now, NowFlush, Base, shown-fit, shown-depth, shown-transmit, shown-receive}
 use Rattle.agreement.proofs.EndFacts.{pushed, core-send, base-send, commanded, core-command, base-command}
 use Rattle.agreement.proofs.EndFacts.{core-receive, base-receive}
 
@@ -104,8 +103,11 @@ module _ (n : ℕ) (accepts : Bool) (j : Job) (other : ℕ → ℕ) (small-e : j
     abbrev param : ℕ
     param = shows (j .exponent) false w g PARAM
 
-    param-is : readField (Param TXFIFO) param ≡ j .exponent
-    param-is = shows-exponent (j .exponent) false w (getD g (placeOf PARAM) 0) small-e
+    param-is : depthOf Tx param ≡ 2 ^ j .exponent
+    param-is = shown-depth n accepts j other small-e keeps c m τ false w g
+
+    param-fit : tooDeep param ≡ false
+    param-fit = shown-fit n accepts j other small-e keeps c m τ false w g
 
     go-space-status : L (on (Space Sizes)) → L (on (Space Status))
     unfolding stepped dueAccess resumed
@@ -113,15 +115,15 @@ module _ (n : ℕ) (accepts : Bool) (j : Job) (other : ℕ → ℕ) (small-e : j
 
     go-space-sizes : L (on (Space (Counts param))) → L (on (Space Sizes))
     unfolding stepped dueAccess resumed
-    go-space-sizes l = step-to refl l
+    go-space-sizes l = step-to (rw param-fit) l
 
-    go-space-counts : (v : ℕ) → length (w .transmit) < readField (Param TXFIFO) v → L (on Command) → L (on (Space (Counts v)))
+    go-space-counts : (v : ℕ) → length (w .transmit) < depthOf Tx v → L (on Command) → L (on (Space (Counts v)))
     unfolding stepped dueAccess resumed
     go-space-counts v h l =
         step-to
         (rw (
           shown-transmit n accepts j other small-e keeps c m τ false w g B,
-          lt-ltb (length (w .transmit)) (readField (Param TXFIFO) v) h,
+          lt-ltb (length (w .transmit)) (depthOf Tx v) h,
         ))
         l
 
@@ -139,33 +141,33 @@ module _ (n : ℕ) (accepts : Bool) (j : Job) (other : ℕ → ℕ) (small-e : j
 
     go-sending-sizes : L (on (Sending (Counts param))) → L (on (Sending Sizes))
     unfolding stepped dueAccess resumed
-    go-sending-sizes l = step-to refl l
+    go-sending-sizes l = step-to (rw param-fit) l
 
-    go-sending-ready : (v : ℕ) → length (w .transmit) < readField (Param TXFIFO) v → L (on Send) → L (on (Sending (Counts v)))
+    go-sending-ready : (v : ℕ) → length (w .transmit) < depthOf Tx v → L (on Send) → L (on (Sending (Counts v)))
     unfolding stepped dueAccess resumed
     go-sending-ready v h l =
         step-to
         (rw (
           shown-transmit n accepts j other small-e keeps c m τ false w g B,
-          lt-ltb (length (w .transmit)) (readField (Param TXFIFO) v) h,
+          lt-ltb (length (w .transmit)) (depthOf Tx v) h,
         ))
         l
 
-    go-sending-unready : (v : ℕ) → readField (Param TXFIFO) v ≤ length (w .transmit) → L (on (receiveTurn k)) → L (on (Sending (Counts v)))
+    go-sending-unready : (v : ℕ) → depthOf Tx v ≤ length (w .transmit) → L (on (receiveTurn k)) → L (on (Sending (Counts v)))
     unfolding stepped dueAccess resumed
     go-sending-unready v h l =
         step-to
         (rw (
           shown-transmit n accepts j other small-e keeps c m τ false w g B,
-          le-ltb (length (w .transmit)) (readField (Param TXFIFO) v) h,
+          le-ltb (length (w .transmit)) (depthOf Tx v) h,
         ))
         l
 
-    go-send : length (w .transmit) < j .exponent
+    go-send : length (w .transmit) < 2 ^ j .exponent
         → L (end (at (sendTurn (oneSent k)) (oneSent k) q) FlushStatus rs (pushed n accepts j other small-e keeps c m τ rs k w) g)
         → L (on Send)
     unfolding stepped dueAccess resumed
-    go-send h l = step-to (rw (lt-leb (2 ^ j .exponent) (length (w .transmit)) (omega (arith, below-capacity (j .exponent))))) l
+    go-send h l = step-to (rw (lt-leb (2 ^ j .exponent) (length (w .transmit)) h)) l
 
     go-receiving-status : L (on (Receiving Sizes)) → L (on (Receiving Status))
     unfolding stepped dueAccess resumed
@@ -173,7 +175,7 @@ module _ (n : ℕ) (accepts : Bool) (j : Job) (other : ℕ → ℕ) (small-e : j
 
     go-receiving-sizes : L (on (Receiving (Counts param))) → L (on (Receiving Sizes))
     unfolding stepped dueAccess resumed
-    go-receiving-sizes l = step-to refl l
+    go-receiving-sizes l = step-to (rw param-fit) l
 
     go-receiving-ready : (v : ℕ) → 0 < length (w .receive) → L (on Receive) → L (on (Receiving (Counts v)))
     unfolding stepped dueAccess resumed
@@ -209,7 +211,7 @@ module _ (n : ℕ) (accepts : Bool) (j : Job) (other : ℕ → ℕ) (small-e : j
 
     go-flush-sizes : L (flushing FlushCounts) → L (flushing FlushSizes)
     unfolding stepped dueAccess resumed
-    go-flush-sizes l = step-to refl l
+    go-flush-sizes l = step-to (rw param-fit) l
 
     go-flush-counts : length (w .transmit) ≡ 0 → L (flushing (Flushed Ok)) → L (flushing FlushCounts)
     unfolding stepped dueAccess resumed
@@ -266,7 +268,7 @@ module _ (n : ℕ) (accepts : Bool) (j : Job) (other : ℕ → ℕ) (small-e : j
             (omega (arith, ltb-false (k .received) (k .receive) h′, x .taken, x .toReceive, x .inEq, B .small))
 
     -- nothing to take, no word queued: one is sent, and waits
-    kick : 1 < j .exponent → length (w .receive) ≡ 0 → length (w .transmit) ≤ 1 → c < n → L (on (Sending Status))
+    kick : 1 < 2 ^ j .exponent → length (w .receive) ≡ 0 → length (w .transmit) ≤ 1 → c < n → L (on (Sending Status))
     kick pos hr ht l =
         go-sending-status
         (go-sending-sizes
@@ -275,7 +277,7 @@ module _ (n : ℕ) (accepts : Bool) (j : Job) (other : ℕ → ℕ) (small-e : j
         (here (end (at (sendTurn (oneSent k)) (oneSent k) q) FlushStatus rs (pushed n accepts j other small-e keeps c m τ rs k w) g)
         (waits l hr (omega (arith, more-words (w .transmit) (j .words rs (k .sent)))))))))
 
-    receiving-counts : (v : ℕ) → 1 < j .exponent → Cr k rs w → length rs < n → (0 < length (w .receive) → L (on Receive))
+    receiving-counts : (v : ℕ) → 1 < 2 ^ j .exponent → Cr k rs w → length rs < n → (0 < length (w .receive) → L (on Receive))
         → L (on (Receiving (Counts v)))
     receiving-counts v pos x l go = by-tests (ltb 0 (length (w .receive))) (ltb 0 (length (wordsIn (w .transmit)))) refl refl
       where
@@ -294,17 +296,17 @@ module _ (n : ℕ) (accepts : Bool) (j : Job) (other : ℕ → ℕ) (small-e : j
             let few : length (w .transmit) ≤ 1 = omega (arith, b, one-command (w .transmit) (x .first)) in
             go-receiving-unready v a (subst (λ (p : Stage). L (on p)) (sym e) (kick pos a few l′))
 
-    sending-counts : (v : ℕ) → Cr k rs w → readField (Param TXFIFO) v ≡ j .exponent
-        → (length (w .transmit) < j .exponent → L (on Send)) → (length rs < n → L (on (Receiving Status)))
+    sending-counts : (v : ℕ) → Cr k rs w → depthOf Tx v ≡ 2 ^ j .exponent
+        → (length (w .transmit) < 2 ^ j .exponent → L (on Send)) → (length rs < n → L (on (Receiving Status)))
         → L (on (Sending (Counts v)))
-    sending-counts v x e go go′ = by-test (ltb (length (w .transmit)) (readField (Param TXFIFO) v)) refl
+    sending-counts v x e go go′ = by-test (ltb (length (w .transmit)) (depthOf Tx v)) refl
       where
-        by-test : (y : Bool) → ltb (length (w .transmit)) (readField (Param TXFIFO) v) ≡ y → L (on (Sending (Counts v)))
+        by-test : (y : Bool) → ltb (length (w .transmit)) (depthOf Tx v) ≡ y → L (on (Sending (Counts v)))
         by-test true h =
-            let a = ltb-true (length (w .transmit)) (readField (Param TXFIFO) v) h in go-sending-ready v a (go (omega (arith, e)))
-        by-test false h = go-sending-unready v (ltb-false (length (w .transmit)) (readField (Param TXFIFO) v) h) (turn-receive x go′)
+            let a = ltb-true (length (w .transmit)) (depthOf Tx v) h in go-sending-ready v a (go (omega (arith, e)))
+        by-test false h = go-sending-unready v (ltb-false (length (w .transmit)) (depthOf Tx v) h) (turn-receive x go′)
 
-  module _ (pos : 1 < j .exponent) where
+  module _ (pos : 1 < 2 ^ j .exponent) where
     abbrev run-on : Work → Sequence → List ℕ → Wire → List ℕ → Stage → End
     run-on k q rs w g p = end (at p k q) FlushStatus rs w g
 
@@ -346,7 +348,7 @@ module _ (n : ℕ) (accepts : Bool) (j : Job) (other : ℕ → ℕ) (small-e : j
 
     -- a word goes, and its sender has the turn again
     sent-then : (k : Work) (q : Sequence) (rs : List ℕ) (w : Wire) (g : List ℕ) → Bs w → Cr k rs w → k .sent < n
-        → length (w .transmit) < j .exponent → Begun k w
+        → length (w .transmit) < 2 ^ j .exponent → Begun k w
         → (counted (k .sent) (k .send) < n → Bs (pushed n accepts j other small-e keeps c m τ rs k w)
         → Cr (oneSent k) rs (pushed n accepts j other small-e keeps c m τ rs k w)
         → L (run-on (oneSent k) q rs (pushed n accepts j other small-e keeps c m τ rs k w) g (Sending Status)))
@@ -379,7 +381,7 @@ module _ (n : ℕ) (accepts : Bool) (j : Job) (other : ℕ → ℕ) (small-e : j
     sending-any k q rs w g B x l b = sending n k q rs w g (omega arith) B x l b
 
     sent : (k : Work) (q : Sequence) (rs : List ℕ) (w : Wire) (g : List ℕ) → Bs w → Cr k rs w → k .sent < n
-        → length (w .transmit) < j .exponent → Begun k w → L (run-on k q rs w g Send)
+        → length (w .transmit) < 2 ^ j .exponent → Begun k w → L (run-on k q rs w g Send)
     sent k q rs w g B x l h b =
         let up : counted (k .sent) (k .send) ≡ k .sent + 1 = counted-up (k .sent) (k .send) (omega (arith, x .toSend)) in
         sent-then k q rs w g B x l h b
@@ -387,7 +389,7 @@ module _ (n : ℕ) (accepts : Bool) (j : Job) (other : ℕ → ℕ) (small-e : j
         sending-any (oneSent k) q rs (pushed n accepts j other small-e keeps c m τ rs k w) g B′ x′ l′ (λ z. absurd (omega (arith, up, z))))
 
     sending-asked : (v : ℕ) (k : Work) (q : Sequence) (rs : List ℕ) (w : Wire) (g : List ℕ)
-        → readField (Param TXFIFO) v ≡ j .exponent → Bs w → Cr k rs w → k .sent < n → Begun k w
+        → depthOf Tx v ≡ 2 ^ j .exponent → Bs w → Cr k rs w → k .sent < n → Begun k w
         → L (run-on k q rs w g (Sending (Counts v)))
     sending-asked v k q rs w g e B x l b =
         sending-counts k q rs w g B v x e (λ h. sent k q rs w g B x l h b) (λ h. receiving-any k q rs w g B x h)

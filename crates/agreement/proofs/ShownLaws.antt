@@ -1,19 +1,24 @@
--- What polls and flush make of the registers of an end: SR's flags, PARAM's exponent, FSR's counts.
+-- What polls and flush make of the registers of an end: SR's flags, PARAM's depth, FSR's counts.
 -- Assumes nothing.
 use Prim.Native.Nat.{ℕ, zero, suc, _^_, _<_, _≤_}
 use mathlib.Core.Bool.{Bool, true, false}
 use mathlib.Core.List.{[], _∷_}
-use mathlib.Core.Path.{_≡_, refl, _∙_}
+use mathlib.Core.Path.{_≡_, refl, ap, _∙_}
 use native.Mathlib.Nat.{mod-eq-of-lt}
 use native.Mathlib.Omega.{arith}
 use lib.Dec.{eqb}
 use lib.ListN.{length}
+use borrow.Author.Tests.{le-ltb}
 use Rattle.manual.specs.declared.Field.the-variants.{Sr, Fsr, Param}
 use Rattle.manual.specs.declared.Fsr.the-variants.{TXCOUNT, RXCOUNT}
 use Rattle.manual.specs.declared.Param.the-variants.{TXFIFO, RXFIFO}
 use Rattle.manual.specs.declared.Sr.the-variants.{TEF, REF, MBF}
 use Rattle.manual.specs.Manual.{readField}
 use Rattle.manual.proofs.ManualLaws.{read-all}
+use Rattle.words.specs.declared.transaction.Direction.{Direction}
+use Rattle.words.specs.declared.transaction.Direction.the-variants.{Tx, Rx}
+use Rattle.sequences.specs.Sequence.{exponentOf, tooDeep, depthOf}
+use Rattle.sequences.proofs.DepthLaws.{true-depth}
 use Rattle.agreement.specs.declared.register.Role.the-variants.{Sizes as sizes, Status as status, Counts as counts}
 use Rattle.agreement.specs.End.{Wire, showsBy}
 
@@ -67,10 +72,22 @@ module _ (e : ℕ) (busy : Bool) (w : Wire) where
       by-flags false false true = refl
       by-flags false false false = refl
 
-  -- PARAM's field is the exponent
-  pub shows-exponent : (held : ℕ) → e ≤ 4 → readField (Param TXFIFO) (showsBy e busy w sizes held) ≡ e
-  shows-exponent held h =
+  -- both of PARAM's fields are the exponent
+  shows-exponent : (d : Direction) (held : ℕ) → e ≤ 4 → exponentOf d (showsBy e busy w sizes held) ≡ e
+  shows-exponent Tx held h =
       let l : e < 2 ^ 8 = omega arith in read-all (Param TXFIFO) ((Param RXFIFO, e) ∷ (Param TXFIFO, e) ∷ []) 0 tt ∙ mod-eq-of-lt l
+  shows-exponent Rx held h =
+      let l : e < 2 ^ 8 = omega arith in read-all (Param RXFIFO) ((Param RXFIFO, e) ∷ (Param TXFIFO, e) ∷ []) 0 tt ∙ mod-eq-of-lt l
+
+  -- neither is over 4: no poll and no flush answers 7 over the bus
+  pub shows-fit : (held : ℕ) → e ≤ 4 → tooDeep (showsBy e busy w sizes held) ≡ false
+  shows-fit held h = rw (shows-exponent Tx held h, shows-exponent Rx held h, le-ltb 4 e h) refl
+
+  -- and the depth is the capacity
+  pub shows-depth : (held : ℕ) → e ≤ 4 → depthOf Tx (showsBy e busy w sizes held) ≡ 2 ^ e
+  shows-depth held h =
+      let x = shows-exponent Tx held h in
+      true-depth Tx (showsBy e busy w sizes held) (omega (arith, x)) ∙ ap (λ (n : ℕ). 2 ^ n) x
 
   -- FSR counts the queues, of at most 16 places each
   pub shows-transmit : (held : ℕ) → length (w .transmit) ≤ 16

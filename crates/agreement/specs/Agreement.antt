@@ -73,7 +73,7 @@ pub record Agreement (g a : Start) (events : List Event) (gate antenna : Seen) (
   -- (b) an end whose flag a lost or a made-up word set, anywhere in the list, has not had Ok twice
   pub gateTells : 0 < tally Gate g a events .lost + tally Gate g a events .madeUp → OkTwice gate → ⊥
   pub antennaTells : 0 < tally Antenna g a events .lost + tally Antenna g a events .madeUp → OkTwice antenna → ⊥
-  -- (c) no event set a flag, the frame size is accepted, both FIFOs hold more than two words: both can still get there
+  -- (c) no event set a flag, the frame size is accepted, both FIFOs hold two words or more: both can still get there
   pub finishes : tally Gate g a events .flags + tally Antenna g a events .flags ≡ 0 → accepted g ≡ true
-      → 2 < 2 ^ (g .board .exponent) → 2 < 2 ^ (a .board .exponent)
+      → 1 < 2 ^ (g .board .exponent) → 1 < 2 ^ (a .board .exponent)
       → Finish g a events

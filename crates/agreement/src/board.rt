@@ -7,6 +7,6 @@ pub struct Board {
     pub width: Width,
     // One buffer is both written and read.
     pub inplace: bool,
-    // Its FIFOs have 2^exponent places, of which a command takes one; with 0 or 1 it never sends a word.
+    // Its FIFOs have 2^exponent places, of which a command takes one; with 0 it never sends a word.
     pub exponent: usize,
 }

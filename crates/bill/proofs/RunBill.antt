@@ -14,10 +14,11 @@ use Rattle.sequences.specs.declared.access.Ending.{Ending}
 use Rattle.sequences.specs.declared.access.Ending.the-variants.{Ok, Err, Stopped, Limits, ZeroClock, FifoExponent}
 use Rattle.sequences.specs.declared.driver.Lpspi.{Lpspi}
 use Rattle.sequences.specs.declared.sequence.Sequence.{Sequence}
+use Rattle.sequences.specs.Sequence.{tooDeep}
 use Rattle.sequences.specs.Recovery.{recoveryAfter, recovered}
 use Rattle.machine.specs.declared.poll.Poll.{Poll}
 use Rattle.machine.specs.declared.poll.Poll.the-variants.{Status, Sizes, Counts}
-use Rattle.machine.specs.declared.poll.Polled.the-variants.{Failed, Next, Ready, Unready}
+use Rattle.machine.specs.declared.poll.Polled.the-variants.{Failed, TooDeep, Next, Ready, Unready}
 use Rattle.machine.specs.declared.transfer.Stage.{Stage}
 use Rattle.machine.specs.declared.transfer.Stage.the-variants.{Space, Command, Sending, Send, Receiving, Receive, Recovery, Ended}
 use Rattle.machine.specs.declared.transfer.Transfer.{Transfer}
@@ -108,6 +109,22 @@ receiving-first : (t : Bool) (w : Work) (made n : ℕ) → made ≡ cost w + 3 *
 receiving-first true w made n h = tt
 receiving-first false w made n h = omega arith
 
+-- the second: an exponent over 4, or on
+space-second : (t : Bool) (w : Work) (x made n : ℕ) → made ≡ 1 + 3 * n
+    → Bill (spaceBy (cond t TooDeep (Next (Counts x)))) w (made + 1) (n + 0)
+space-second true w x made n h = tt
+space-second false w x made n h = omega arith
+
+sending-second : (t : Bool) (w : Work) (x made n : ℕ) → made ≡ cost w + 1 + 3 * n
+    → Bill (sendingBy w (cond t TooDeep (Next (Counts x)))) w (made + 1) (n + 0)
+sending-second true w x made n h = tt
+sending-second false w x made n h = omega arith
+
+receiving-second : (t : Bool) (w : Work) (x made n : ℕ) → made ≡ cost w + 1 + 3 * n
+    → Bill (receivingBy w (cond t TooDeep (Next (Counts x)))) w (made + 1) (n + 0)
+receiving-second true w x made n h = tt
+receiving-second false w x made n h = omega arith
+
 recovery-bill : (t : Bool) (d : Direction) (w : Work) (made n : ℕ) → Bill (cond t (Ended (Err (Fifo d))) (Recovery d)) w made n
 recovery-bill true d w made n = tt
 recovery-bill false d w made n = tt
@@ -119,15 +136,15 @@ bill-on : (p : Stage) (w : Work) (r : Sequence) (v made n used answers : ℕ) �
     (resumed (at p w r) (answerOf (dueAccess (at p w r)) v) .work) (made + 1) (n + unreadyIn p v)
 unfolding dueAccess resumed
 bill-on (Space Status) w r v made n used answers l t h = space-first (failed Tx v) w made n (omega arith)
-bill-on (Space Sizes) w r v made n used answers l t h = omega arith
+bill-on (Space Sizes) w r v made n used answers l t h = space-second (tooDeep v) w v made n h
 bill-on (Space (Counts x)) w r v made n used answers l t h = space-bill (ready Tx x v) w made n h
 bill-on Command w r v made n used answers l t h = send-bill w (made + 1) (n + 0) (omega arith)
 bill-on (Sending Status) w r v made n used answers l t h = sending-first (failed Tx v) w made n (omega arith)
-bill-on (Sending Sizes) w r v made n used answers l t h = omega arith
+bill-on (Sending Sizes) w r v made n used answers l t h = sending-second (tooDeep v) w v made n h
 bill-on (Sending (Counts x)) w r v made n used answers l t h = sending-bill (ready Tx x v) w made n h
 bill-on Send w r v made n used answers l t h = send-bill (oneSent w) (made + 1) (n + 0) (omega (arith, counted-up (w .sent) (w .send) t))
 bill-on (Receiving Status) w r v made n used answers l t h = receiving-first (failed Rx v) w made n (omega arith)
-bill-on (Receiving Sizes) w r v made n used answers l t h = omega arith
+bill-on (Receiving Sizes) w r v made n used answers l t h = receiving-second (tooDeep v) w v made n h
 bill-on (Receiving (Counts x)) w r v made n used answers l t h = receiving-bill (ready Rx x v) w made n h
 bill-on Receive w r v made n used answers l t h =
     receive-bill (oneReceived w) (made + 1) (n + 0) (omega (arith, counted-up (w .received) (w .receive) t))

@@ -18,10 +18,11 @@ use Rattle.sequences.specs.declared.access.Ending.{Ending}
 use Rattle.sequences.specs.declared.access.Ending.the-variants.{Ok, Err, Stopped, Limits, ZeroClock, FifoExponent}
 use Rattle.sequences.specs.declared.driver.Lpspi.{Lpspi}
 use Rattle.sequences.specs.declared.sequence.Sequence.{Sequence}
+use Rattle.sequences.specs.Sequence.{tooDeep}
 use Rattle.sequences.specs.Recovery.{recoveryAfter, recovered}
 use Rattle.machine.specs.declared.poll.Poll.{Poll}
 use Rattle.machine.specs.declared.poll.Poll.the-variants.{Status, Sizes, Counts}
-use Rattle.machine.specs.declared.poll.Polled.the-variants.{Failed, Next, Ready, Unready}
+use Rattle.machine.specs.declared.poll.Polled.the-variants.{Failed, TooDeep, Next, Ready, Unready}
 use Rattle.machine.specs.declared.transfer.Stage.{Stage}
 use Rattle.machine.specs.declared.transfer.Stage.the-variants.{Space, Command, Sending, Send, Receiving, Receive, Recovery, Ended}
 use Rattle.machine.specs.declared.transfer.Transfer.{Transfer}
@@ -130,6 +131,20 @@ receiving-first : (t last : Bool) (w : Work) (made n : ℕ) → n ≡ made + con
 receiving-first true last w made n h = tt
 receiving-first false last w made n h = rw add-zero h
 
+space-second : (t : Bool) (x made n : ℕ) → n ≡ made → Shown (spaceBy (cond t TooDeep (Next (Counts x)))) false (made + 0) (n + 0)
+space-second true x made n h = tt
+space-second false x made n h = omega arith
+
+sending-second : (t : Bool) (w : Work) (x made n : ℕ) → n ≡ made
+    → Shown (sendingBy w (cond t TooDeep (Next (Counts x)))) false (made + 0) (n + 0)
+sending-second true w x made n h = tt
+sending-second false w x made n h = omega arith
+
+receiving-second : (t : Bool) (w : Work) (x made n : ℕ) → n ≡ made
+    → Shown (receivingBy w (cond t TooDeep (Next (Counts x)))) false (made + 0) (n + 0)
+receiving-second true w x made n h = tt
+receiving-second false w x made n h = omega arith
+
 space-last : (t : Bool) (made n : ℕ) → n ≡ made → Shown (spaceBy (cond t Ready Unready)) true (made + 0) (n + cond t 0 1)
 space-last true made n h = omega arith
 space-last false made n h = omega arith
@@ -156,15 +171,15 @@ shown-on : (p : Stage) (w : Work) (r : Sequence) (v made n used answers : ℕ) (
     (made + again last (codeOf (dueAccess (at p w r)))) (n + unreadyIn p v)
 unfolding dueAccess resumed
 shown-on (Space Status) w r v made n used answers last go t h = space-first (failed Tx v) last made n h
-shown-on (Space Sizes) w r v made n used answers last go t h = omega arith
+shown-on (Space Sizes) w r v made n used answers last go t h = space-second (tooDeep v) v made n h
 shown-on (Space (Counts x)) w r v made n used answers last go t h = space-last (ready Tx x v) made n h
 shown-on Command w r v made n used answers last go t h = send-shown w (made + 0) (n + 0) (omega arith)
 shown-on (Sending Status) w r v made n used answers last go t h = sending-first (failed Tx v) last w made n h
-shown-on (Sending Sizes) w r v made n used answers last go t h = omega arith
+shown-on (Sending Sizes) w r v made n used answers last go t h = sending-second (tooDeep v) w v made n h
 shown-on (Sending (Counts x)) w r v made n used answers last go t h = sending-last (ready Tx x v) w made n t h
 shown-on Send w r v made n used answers last go t h = send-shown (oneSent w) (made + 0) (n + 0) (omega arith)
 shown-on (Receiving Status) w r v made n used answers last go t h = receiving-first (failed Rx v) last w made n h
-shown-on (Receiving Sizes) w r v made n used answers last go t h = omega arith
+shown-on (Receiving Sizes) w r v made n used answers last go t h = receiving-second (tooDeep v) w v made n h
 shown-on (Receiving (Counts x)) w r v made n used answers last go t h = receiving-last (ready Rx x v) w made n t h
 shown-on Receive w r v made n used answers last go t h = receive-shown (oneReceived w) (made + 0) (n + 0) (omega arith)
 shown-on (Recovery d) w r v made n used answers last go t h =

@@ -109,7 +109,7 @@ module _ (k : ℕ) (g a : Board) (gateRead gateWrite antennaRead antennaWrite : 
 
   pub reaches : (bytes : List ℕ) → answered bytes .number ≡ 0
       → tally Gate gateStart antennaStart (eventsOf bytes) .flags + tally Antenna gateStart antennaStart (eventsOf bytes) .flags ≡ 0
-      → accepted gateStart ≡ true → 2 < 2 ^ (g .exponent) → 2 < 2 ^ (a .exponent) → Reaches bytes
+      → accepted gateStart ≡ true → 1 < 2 ^ (g .exponent) → 1 < 2 ^ (a .exponent) → Reaches bytes
   reaches bytes zero-number calm ok eg ea =
       let fits = accepts (unpaired k gateStart antennaStart) _ _ refl zero-number in
       let f = finishes gateStart antennaStart (not-refused k gateStart antennaStart fits .1) (eventsOf bytes) calm ok eg ea in

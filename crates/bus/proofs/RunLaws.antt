@@ -152,11 +152,11 @@ module _ (g a : Start) (gl al : Link) (gateSend antennaSend : List ℕ) where
       next
       (record {
         place = room-for gs gw gr (q .gate) g eg wg (l .gate .room) (gate-receives g a f vs);
-        idle = idle-for gs gw gr (q .gate) eg (λ v h. gate-command-first g a f vs v h .0);
+        idle = idle-for gs gw gr (q .gate) eg (λ v h. gate-command-first g a f vs v h);
       })
       (record {
         place = room-for hs aw ar (q .antenna) a ea wa (l .antenna .room) (antenna-receives g a f vs);
-        idle = idle-for hs aw ar (q .antenna) ea (λ v h. antenna-command-first g a f vs v h .0);
+        idle = idle-for hs aw ar (q .antenna) ea (λ v h. antenna-command-first g a f vs v h);
       })
       ∙ ap₂ (happened (linkJob gl gateSend) (linkJob al antennaSend)) e ev
       ∙ same-event (linkJob gl gateSend) (linkJob al antennaSend) (job g) (job a) q (eventOf (getD bytes i 0))

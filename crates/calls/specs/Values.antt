@@ -5,9 +5,8 @@ use mathlib.Core.Bool.{Bool, cond}
 use mathlib.Core.List.{List, [], _∷_}
 use lib.Dec.{leb, eqb}
 use Rattle.manual.specs.declared.Cr.the-variants.{MEN}
-use Rattle.manual.specs.declared.Field.the-variants.{Cr, Fsr, Param, Rsr}
+use Rattle.manual.specs.declared.Field.the-variants.{Cr, Fsr, Rsr}
 use Rattle.manual.specs.declared.Fsr.the-variants.{TXCOUNT, RXCOUNT}
-use Rattle.manual.specs.declared.Param.the-variants.{TXFIFO, RXFIFO}
 use Rattle.manual.specs.declared.Register.the-variants.{PARAM, RSR}
 use Rattle.manual.specs.declared.Rsr.the-variants.{RXEMPTY}
 use Rattle.manual.specs.Manual.{readField}
@@ -15,8 +14,7 @@ use Rattle.words.specs.declared.transaction.Direction.{Direction}
 use Rattle.words.specs.declared.transaction.Direction.the-variants.{Tx, Rx}
 use Rattle.sequences.specs.declared.sequence.Sequence.{Sequence}
 use Rattle.sequences.specs.declared.status.Status.{Status}
-use Rattle.machine.specs.Poll.{depth}
-use Rattle.sequences.specs.Sequence.{keptOf, waterOf, levelOf}
+use Rattle.sequences.specs.Sequence.{keptOf, depthOf, waterOf, levelOf}
 use Rattle.sequences.specs.Status.{statusOf}
 use Rattle.calls.specs.declared.results.FifoStatus.{FifoStatus}
 use Rattle.calls.specs.declared.results.Data.{Data}
@@ -36,14 +34,14 @@ statusIn s = record { bits = statusOf (s .held) }
 abbrev pub enabledIn : Sequence → Bool
 enabledIn s = eqb (readField (Cr MEN) (s .held)) 1
 
--- PARAM's fields, as the Rust takes them for capacities
+-- "`FifoStatus` reports depths"
 abbrev pub fifoStatus : ℕ → ℕ → FifoStatus
 fifoStatus param counts =
     record {
       rxcount = readField (Fsr RXCOUNT) counts;
       txcount = readField (Fsr TXCOUNT) counts;
-      rxcap = depth (readField (Param RXFIFO) param);
-      txcap = depth (readField (Param TXFIFO) param);
+      rxcap = depthOf Rx param;
+      txcap = depthOf Tx param;
     }
 
 abbrev pub fifoIn : Sequence → FifoStatus
@@ -64,7 +62,7 @@ noStatus = record { bits = 0 }
 abbrev pub noFifo : FifoStatus
 noFifo = record { rxcount = 0; txcount = 0; rxcap = 0; txcap = 0 }
 
--- `is_full`: the count has reached the capacity
+-- `is_full`, "count ≥ 2^exponent": the count has reached the depth
 abbrev pub isFull : Direction → FifoStatus → Bool
 isFull Tx f = leb (f .txcap) (f .txcount)
 isFull Rx f = leb (f .rxcap) (f .rxcount)

@@ -10,15 +10,14 @@ use crate::entry::result;
 use crate::results::FifoResult;
 use crate::results::FifoStatus;
 use crate::results::LevelResult;
-use machine::poll::depth;
 use manual::Field;
 use manual::Fsr;
-use manual::Param;
 use manual::Register;
 use runs::call::run_call;
 use runs::result::RunResult;
 use sequences::call::Call;
 use sequences::driver::Lpspi;
+use sequences::sequence::depth;
 use sequences::sequence::level;
 use sequences::sequence::water;
 use words::transaction::Direction;
@@ -101,12 +100,12 @@ fn fifo(param: u32, counts: u32) -> FifoStatus
     FifoStatus {
         rxcount: Field::Fsr(Fsr::RXCOUNT).read(counts) as u16,
         txcount: Field::Fsr(Fsr::TXCOUNT).read(counts) as u16,
-        rxcap: depth(Field::Param(Param::RXFIFO).read(param)) as u16,
-        txcap: depth(Field::Param(Param::TXFIFO).read(param)) as u16,
+        rxcap: depth(Direction::Rx, param) as u16,
+        txcap: depth(Direction::Tx, param) as u16,
     }
 }
 
-// The counts and capacities of the FIFOs.
+// The counts and depths of the FIFOs.
 pub fn fifo_status(driver: Lpspi, budget: usize, script: &[u32], log: &mut [u32]) -> FifoResult
     ensures { λ r. ⌜ valueLeft (r .result) (r .fifo) (now (log .exit))
         ≡ valued fifoIn noFifo (callRun driver GetFifoStatus budget (now (script .entry)) (now (log .entry))) ⌝ }
@@ -121,6 +120,11 @@ pub fn fifo_status(driver: Lpspi, budget: usize, script: &[u32], log: &mut [u32]
     }
     FifoResult {
         result: result(called),
-        fifo: fifo(0, 0),
+        fifo: FifoStatus {
+            rxcount: 0,
+            txcount: 0,
+            rxcap: 0,
+            txcap: 0,
+        },
     }
 }

@@ -20,7 +20,7 @@ pub struct EnabledResult {
     pub enabled: bool,
 }
 
-// The counts of the FIFOs, and PARAM's fields as the Rust takes them for capacities (`depth`). Of zeros, `is_full` is true.
+// The counts of the FIFOs, and their depths. Of zeros, `is_full` is true.
 pub struct FifoStatus {
     pub rxcount: u16,
     pub txcount: u16,

@@ -1,3 +1,4 @@
 pub mod BoundLaws
 pub mod PollLaws
 pub mod StartLaws
+pub mod SevenLaws

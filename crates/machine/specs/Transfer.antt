@@ -11,12 +11,12 @@ use Rattle.words.specs.declared.transaction.LpspiError.the-variants.{Fifo}
 use Rattle.sequences.specs.declared.access.Access.{Access}
 use Rattle.sequences.specs.declared.access.Access.the-variants.{Write, Done, Send as SendWord, Receive as ReceiveWord}
 use Rattle.sequences.specs.declared.access.Ending.{Ending}
-use Rattle.sequences.specs.declared.access.Ending.the-variants.{Ok, Err}
+use Rattle.sequences.specs.declared.access.Ending.the-variants.{Ok, Err, FifoExponent}
 use Rattle.sequences.specs.declared.driver.Lpspi.{Lpspi}
 use Rattle.machine.specs.declared.poll.Poll.{Poll}
 use Rattle.machine.specs.declared.poll.Poll.the-variants.{Status, Sizes, Counts}
 use Rattle.machine.specs.declared.poll.Polled.{Polled}
-use Rattle.machine.specs.declared.poll.Polled.the-variants.{Failed, Next, Ready, Unready}
+use Rattle.machine.specs.declared.poll.Polled.the-variants.{Failed, TooDeep, Next, Ready, Unready}
 use Rattle.sequences.specs.declared.sequence.Sequence.{Sequence}
 use Rattle.machine.specs.declared.transfer.Stage.{Stage}
 use Rattle.machine.specs.declared.transfer.Stage.the-variants.{Space, Command, Sending, Send, Receiving, Receive, Recovery, Ended}
@@ -82,19 +82,22 @@ oneReceived w =
 -- an error before TCR does no recovery
 abbrev pub spaceBy : Polled → Stage
 spaceBy Failed = Ended (Err (Fifo Tx))
+spaceBy TooDeep = Ended FifoExponent
 spaceBy (Next p) = Space p
 spaceBy Ready = Command
 spaceBy Unready = Space Status
 
--- a later one does; the side that must wait gives the turn to the other
+-- a later one does; 7 never does ("without recovery"); the side that must wait gives the turn to the other
 abbrev pub sendingBy : Work → Polled → Stage
 sendingBy w Failed = Recovery Tx
+sendingBy w TooDeep = Ended FifoExponent
 sendingBy w (Next p) = Sending p
 sendingBy w Ready = Send
 sendingBy w Unready = receiveTurn w
 
 abbrev pub receivingBy : Work → Polled → Stage
 receivingBy w Failed = Recovery Rx
+receivingBy w TooDeep = Ended FifoExponent
 receivingBy w (Next p) = Receiving p
 receivingBy w Ready = Receive
 receivingBy w Unready = sendTurn w

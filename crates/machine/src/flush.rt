@@ -7,6 +7,7 @@ use manual::Register;
 use manual::Sr;
 use sequences::access::Access;
 use sequences::access::Ending;
+use sequences::sequence::too_deep;
 use words::transaction::Direction;
 use words::transaction::LpspiError;
 
@@ -31,6 +32,15 @@ fn after_status(status: u32) -> Flush
         return Flush::Status;
     }
     Flush::Sizes
+}
+
+fn after_sizes(param: u32) -> Flush
+    ensures { λ r. ⌜ r ≡ flushed Flush.Sizes param ⌝ }
+{
+    if too_deep(param) {
+        return Flush::Ended(Ending::FifoExponent);
+    }
+    Flush::Counts
 }
 
 fn after_counts(counts: u32) -> Flush
@@ -67,7 +77,7 @@ impl Flush {
     {
         match self {
             Flush::Status => after_status(value),
-            Flush::Sizes => Flush::Counts,
+            Flush::Sizes => after_sizes(value),
             Flush::Counts => after_counts(value),
             Flush::Ended(e) => Flush::Ended(e),
         }

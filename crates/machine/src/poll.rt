@@ -1,12 +1,13 @@
 // One poll of a FIFO: the status, the FIFO sizes, the counts.
 ghost use mathlib.Core.Path.{_≡_};
-ghost use Rattle.machine.specs.Poll.{pollAccess, polled, fromSizes, whole, depth, failed, ready};
+ghost use Rattle.machine.specs.Poll.{pollAccess, polled, fromSizes, whole, failed, ready};
 use manual::Field;
 use manual::Fsr;
-use manual::Param;
 use manual::Register;
 use manual::Sr;
 use sequences::access::Access;
+use sequences::sequence::depth;
+use sequences::sequence::too_deep;
 use words::transaction::Direction;
 
 // The read that is due; with the counts, what PARAM answered before them.
@@ -19,6 +20,8 @@ pub enum Poll {
 // What a poll comes to by an answer.
 pub enum Polled {
     Failed,
+    // PARAM has an exponent over 4.
+    TooDeep,
     Next(Poll),
     Ready,
     Unready,
@@ -34,13 +37,6 @@ pub(crate) fn poll_access(poll: Poll) -> Access
     }
 }
 
-// The words that a FIFO of this exponent is taken to hold.
-pub fn depth(exponent: u32) -> u32
-    ensures { λ r. ⌜ r ≡ depth exponent ⌝ }
-{
-    exponent
-}
-
 // The direction's error flag is set.
 pub fn failed(direction: Direction, status: u32) -> bool
     ensures { λ r. ⌜ r ≡ failed direction status ⌝ }
@@ -52,13 +48,11 @@ pub fn failed(direction: Direction, status: u32) -> bool
 }
 
 // There is space to transmit, or a word to receive.
-pub fn ready(direction: Direction, param: u32, counts: u32) -> bool
+fn ready(direction: Direction, param: u32, counts: u32) -> bool
     ensures { λ r. ⌜ r ≡ ready direction param counts ⌝ }
 {
     match direction {
-        Direction::Tx => {
-            Field::Fsr(Fsr::TXCOUNT).read(counts) < depth(Field::Param(Param::TXFIFO).read(param))
-        }
+        Direction::Tx => Field::Fsr(Fsr::TXCOUNT).read(counts) < depth(Direction::Tx, param),
         Direction::Rx => 0 < Field::Fsr(Fsr::RXCOUNT).read(counts),
     }
 }
@@ -74,7 +68,13 @@ pub(crate) fn poll_answered(direction: Direction, poll: Poll, value: u32) -> Pol
                 Polled::Next(Poll::Sizes)
             }
         }
-        Poll::Sizes => Polled::Next(Poll::Counts(value)),
+        Poll::Sizes => {
+            if too_deep(value) {
+                Polled::TooDeep
+            } else {
+                Polled::Next(Poll::Counts(value))
+            }
+        }
         Poll::Counts(param) => {
             if ready(direction, param, value) {
                 Polled::Ready
@@ -91,6 +91,7 @@ fn from_sizes(direction: Direction, param: u32, counts: u32) -> Polled
 {
     match poll_answered(direction, Poll::Sizes, param) {
         Polled::Failed => Polled::Failed,
+        Polled::TooDeep => Polled::TooDeep,
         Polled::Next(_) => poll_answered(direction, Poll::Counts(param), counts),
         Polled::Ready => Polled::Ready,
         Polled::Unready => Polled::Unready,
@@ -103,6 +104,7 @@ pub fn whole(direction: Direction, status: u32, param: u32, counts: u32) -> Poll
 {
     match poll_answered(direction, Poll::Status, status) {
         Polled::Failed => Polled::Failed,
+        Polled::TooDeep => Polled::TooDeep,
         Polled::Next(_) => from_sizes(direction, param, counts),
         Polled::Ready => Polled::Ready,
         Polled::Unready => Polled::Unready,

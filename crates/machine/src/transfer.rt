@@ -130,6 +130,7 @@ fn after_space(poll: Poll, value: u32) -> Stage
 {
     match poll_answered(Direction::Tx, poll, value) {
         Polled::Failed => Stage::Ended(Ending::Err(LpspiError::Fifo(Direction::Tx))),
+        Polled::TooDeep => Stage::Ended(Ending::FifoExponent),
         Polled::Next(p) => Stage::Space(p),
         Polled::Ready => Stage::Command,
         Polled::Unready => Stage::Space(Poll::Status),
@@ -141,6 +142,7 @@ fn after_sending(poll: Poll, work: Work, value: u32) -> Stage
 {
     match poll_answered(Direction::Tx, poll, value) {
         Polled::Failed => Stage::Recovery(Direction::Tx),
+        Polled::TooDeep => Stage::Ended(Ending::FifoExponent),
         Polled::Next(p) => Stage::Sending(p),
         Polled::Ready => Stage::Send,
         Polled::Unready => receive_turn(work),
@@ -152,6 +154,7 @@ fn after_receiving(poll: Poll, work: Work, value: u32) -> Stage
 {
     match poll_answered(Direction::Rx, poll, value) {
         Polled::Failed => Stage::Recovery(Direction::Rx),
+        Polled::TooDeep => Stage::Ended(Ending::FifoExponent),
         Polled::Next(p) => Stage::Receiving(p),
         Polled::Ready => Stage::Receive,
         Polled::Unready => send_turn(work),

@@ -1,7 +1,7 @@
 -- The run of a flush as the loop makes it: every access is a read, so that as many answers are used as accesses made.
 -- Assumes nothing.
 use Prim.Native.Nat.{ℕ, _+_, _*_, _<_, _≤_, min}
-use mathlib.Core.Bool.{Bool, true, false}
+use mathlib.Core.Bool.{Bool, true, false, cond, _||_}
 use mathlib.Core.List.{List}
 use mathlib.Core.Path.{_≡_, refl, sym, ap, ap₂, _∙_}
 use native.Mathlib.Omega.{arith}
@@ -17,15 +17,16 @@ use Rattle.words.specs.declared.transaction.Direction.the-variants.{Tx, Rx}
 use Rattle.words.specs.declared.transaction.LpspiError.the-variants.{Fifo}
 use Rattle.sequences.specs.declared.access.Access.the-variants.{Read}
 use Rattle.sequences.specs.declared.access.Ending.{Ending}
-use Rattle.sequences.specs.declared.access.Ending.the-variants.{Ok, Err, Stopped}
+use Rattle.sequences.specs.declared.access.Ending.the-variants.{Ok, Err, Stopped, FifoExponent}
 use Rattle.sequences.specs.declared.driver.Lpspi.{Lpspi}
+use Rattle.sequences.specs.Sequence.{tooDeep}
 use Rattle.machine.specs.declared.flush.Flush.{Flush}
 use Rattle.machine.specs.declared.flush.Flush.the-variants.{Status, Sizes, Counts, Ended}
 use Rattle.machine.specs.Flush.{flushAccess, flushed}
 use Rattle.machine.specs.Poll.{failed}
 use Rattle.runs.specs.declared.flush.Flushed.{Flushed}
 use Rattle.runs.specs.Run.{limits, codeOf, halted, ended, endingOf, State, left, logOver, put}
-use Rattle.runs.specs.Flush.{flushStates, FlushLeft, flushLeft, flushLoop, flushRun, FlushAt}
+use Rattle.runs.specs.Flush.{firstError, flushStates, FlushLeft, flushLeft, flushLoop, flushRun, FlushAt}
 use Rattle.runs.proofs.LoopLaws.{at-next, at-full, at-halted}
 
 -- a flush that has not ended reads: it is halted where the script is used up, and stopped where it halts
@@ -70,18 +71,38 @@ module _ (script old : List ℕ) (n : ℕ) where
   flush-read f at v log log′ h e l r ea ev el =
       flush-next f (flushed f v) v log log′ h e l r ev (el ∙ ap₂ (λ (x y : ℕ). put log n x y) ea (sym ev)) refl
 
--- what the answers of SR and FSR come to: receive error, then transmit error, then, if not busy, PARAM and FSR; Ok if TXCOUNT is 0
-pub receive-failed : (v : ℕ) → failed Rx v ≡ true → flushed Status v ≡ Ended (Err (Fifo Rx))
-receive-failed v r = rw r refl
+-- what the answers come to: receive error, then transmit error, then, if not busy, PARAM, 7 by an exponent over 4, and FSR; Ok if TXCOUNT
+-- is 0
+pub has-failed : (v : ℕ) → (failed Rx v || failed Tx v) ≡ true → flushed Status v ≡ Ended (firstError v)
+has-failed v = by-tests (failed Rx v) (failed Tx v) (eqb (readField (Sr MBF) v) 1)
+  where
+    by-tests : (a b c : Bool) → (a || b) ≡ true
+        → cond a (Ended (Err (Fifo Rx))) (cond b (Ended (Err (Fifo Tx))) (cond c Status Sizes)) ≡ Ended (cond a (Err (Fifo Rx)) (Err (Fifo Tx)))
+    by-tests true b c h = refl
+    by-tests false true c h = refl
+    by-tests false false c h = cc
 
-pub transmit-failed : (v : ℕ) → failed Rx v ≡ false → failed Tx v ≡ true → flushed Status v ≡ Ended (Err (Fifo Tx))
-transmit-failed v r t = rw (r, t) refl
+module _ (v : ℕ) (quiet : (failed Rx v || failed Tx v) ≡ false) where
+  by-busy : (a b c : Bool) → (a || b) ≡ false
+      → cond a (Ended (Err (Fifo Rx))) (cond b (Ended (Err (Fifo Tx))) (cond c Status Sizes)) ≡ cond c Status Sizes
+  by-busy true b c h = let z : _≡_ {A = ℕ} 0 1 = cc in absurd (omega arith)
+  by-busy false true c h = let z : _≡_ {A = ℕ} 0 1 = cc in absurd (omega arith)
+  by-busy false false c h = refl
 
-pub still-busy : (v : ℕ) → failed Rx v ≡ false → failed Tx v ≡ false → eqb (readField (Sr MBF) v) 1 ≡ true → flushed Status v ≡ Status
-still-busy v r t b = rw (r, t, b) refl
+  goes-on : flushed Status v ≡ cond (eqb (readField (Sr MBF) v) 1) Status Sizes
+  goes-on = by-busy (failed Rx v) (failed Tx v) (eqb (readField (Sr MBF) v) 1) quiet
 
-pub not-busy : (v : ℕ) → failed Rx v ≡ false → failed Tx v ≡ false → eqb (readField (Sr MBF) v) 1 ≡ false → flushed Status v ≡ Sizes
-not-busy v r t b = rw (r, t, b) refl
+  pub still-busy : eqb (readField (Sr MBF) v) 1 ≡ true → flushed Status v ≡ Status
+  still-busy b = goes-on ∙ ap (λ (c : Bool). cond c Status Sizes) b
+
+  pub not-busy : eqb (readField (Sr MBF) v) 1 ≡ false → flushed Status v ≡ Sizes
+  not-busy b = goes-on ∙ ap (λ (c : Bool). cond c Status Sizes) b
+
+pub deep : (v : ℕ) → tooDeep v ≡ true → flushed Sizes v ≡ Ended FifoExponent
+deep v e = rw e refl
+
+pub not-deep : (v : ℕ) → tooDeep v ≡ false → flushed Sizes v ≡ Counts
+not-deep v e = rw e refl
 
 pub none-left : (v : ℕ) → eqb (readField (Fsr TXCOUNT) v) 0 ≡ true → flushed Counts v ≡ Ended Ok
 none-left v e = rw e refl

@@ -17,7 +17,7 @@ use Rattle.sequences.specs.declared.access.Ending.the-variants.{Ok, Err, Stoppe
 use Rattle.sequences.specs.declared.driver.Lpspi.{Lpspi}
 use Rattle.machine.specs.declared.poll.Poll.the-variants.{Status}
 use Rattle.machine.specs.declared.poll.Polled.{Polled}
-use Rattle.machine.specs.declared.poll.Polled.the-variants.{Failed, Next, Ready, Unready}
+use Rattle.machine.specs.declared.poll.Polled.the-variants.{Failed, TooDeep, Next, Ready, Unready}
 use Rattle.sequences.specs.declared.sequence.Sequence.{Sequence}
 use Rattle.machine.specs.declared.transfer.Stage.{Stage}
 use Rattle.machine.specs.declared.transfer.Stage.the-variants.{Space, Command, Sending, Send, Receiving, Receive, Recovery, Ended}
@@ -78,18 +78,21 @@ receive-turn w s r = by-test (ltb (w .received) (w .receive)) refl (ltb (w .sent
 
 space-turn : (x : Polled) (w : Work) → Standing Command w → Standing (spaceBy x) w
 space-turn Failed w h = tt
+space-turn TooDeep w h = tt
 space-turn (Next p) w h = h
 space-turn Ready w h = h
 space-turn Unready w h = h
 
 sending-turn : (x : Polled) (w : Work) → w .sent ≤ w .send → w .received ≤ w .receive → Standing Send w → Standing (sendingBy w x) w
 sending-turn Failed w s r h = tt
+sending-turn TooDeep w s r h = tt
 sending-turn (Next p) w s r h = h
 sending-turn Ready w s r h = h
 sending-turn Unready w s r h = receive-turn w s r
 
 receiving-turn : (x : Polled) (w : Work) → w .sent ≤ w .send → w .received ≤ w .receive → Standing Receive w → Standing (receivingBy w x) w
 receiving-turn Failed w s r h = tt
+receiving-turn TooDeep w s r h = tt
 receiving-turn (Next p) w s r h = h
 receiving-turn Ready w s r h = h
 receiving-turn Unready w s r h = send-turn w s r

@@ -11,7 +11,7 @@ use Rattle.sequences.specs.declared.access.Access.the-variants.{Read, Write, Se
 use Rattle.machine.specs.declared.poll.Poll.{Poll}
 use Rattle.machine.specs.declared.poll.Poll.the-variants.{Status, Sizes, Counts}
 use Rattle.sequences.specs.declared.sequence.Move.{Move}
-use Rattle.sequences.specs.declared.sequence.Move.the-variants.{Keep, KeepClock, Look, Wait, WaitClock, Size, Arrived}
+use Rattle.sequences.specs.declared.sequence.Move.the-variants.{Keep, KeepClock, Look, Wait, WaitClock, Size, Sizes as SizesMove, Arrived}
 use Rattle.sequences.specs.declared.sequence.Move.the-variants.{Modify, Set, Write as WriteMove, Put, End}
 use Rattle.sequences.specs.declared.sequence.Sequence.{Sequence}
 use Rattle.machine.specs.Poll.{pollAccess}
@@ -47,6 +47,7 @@ isEnd (Look k) = false
 isEnd Wait = false
 isEnd (WaitClock c) = false
 isEnd (Size k) = false
+isEnd SizesMove = false
 isEnd Arrived = false
 isEnd (Modify c) = false
 isEnd (Set c) = false
@@ -61,6 +62,7 @@ move-plain (Look k) s h = omega arith
 move-plain Wait s h = omega arith
 move-plain (WaitClock c) s h = omega arith
 move-plain (Size k) s h = omega arith
+move-plain SizesMove s h = omega arith
 move-plain Arrived s h = omega arith
 move-plain (Modify c) s h = omega arith
 move-plain (Set c) s h = omega arith

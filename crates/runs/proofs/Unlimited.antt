@@ -16,7 +16,7 @@ use Rattle.machine.specs.declared.flush.Flush.{Flush}
 use Rattle.machine.specs.declared.flush.Flush.the-variants.{Status, Sizes, Counts, Ended as FlushEnded}
 use Rattle.machine.specs.declared.poll.Poll.the-variants.{Status as PollStatus, Sizes as PollSizes, Counts as PollCounts}
 use Rattle.sequences.specs.declared.sequence.Move.{Move}
-use Rattle.sequences.specs.declared.sequence.Move.the-variants.{Keep, KeepClock, Look, Wait, WaitClock, Size, Arrived}
+use Rattle.sequences.specs.declared.sequence.Move.the-variants.{Keep, KeepClock, Look, Wait, WaitClock, Size, Sizes as SizesMove, Arrived}
 use Rattle.sequences.specs.declared.sequence.Move.the-variants.{Modify, Set, Write as WriteMove, Put, End}
 use Rattle.sequences.specs.declared.sequence.Sequence.{Sequence}
 use Rattle.machine.specs.declared.transfer.Stage.{Stage}
@@ -40,6 +40,7 @@ writes (Look k) = false
 writes Wait = false
 writes (WaitClock c) = false
 writes (Size k) = false
+writes SizesMove = false
 writes Arrived = false
 writes (Modify c) = true
 writes (Set c) = true
@@ -135,6 +136,7 @@ recovery-fewer (Look k) d r em e u = absurd (omega arith)
 recovery-fewer Wait d r em e u = absurd (omega arith)
 recovery-fewer (WaitClock c) d r em e u = absurd (omega arith)
 recovery-fewer (Size k) d r em e u = absurd (omega arith)
+recovery-fewer SizesMove d r em e u = absurd (omega arith)
 recovery-fewer Arrived d r em e u = absurd (omega arith)
 recovery-fewer (Modify c) d r em e u = recovery-write d r (ap writes em)
 recovery-fewer (Set c) d r em e u = recovery-write d r (ap writes em)

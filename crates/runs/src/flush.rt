@@ -1,14 +1,18 @@
 // `flush`: wait for all ongoing transactions to be finished.
 ghost use mathlib.Core.Path.{_≡_};
 ghost use Prim.Native.Nat.{_+_, _*_, _<_, _≤_, min};
+ghost use mathlib.Core.Bool.{false, _||_};
 ghost use lib.Dec.{eqb};
 ghost use lib.ListN.{length, getD};
 ghost use Rattle.manual.specs.declared.Field.the-variants.{Sr as SrField, Fsr as FsrField};
 ghost use Rattle.manual.specs.declared.Fsr.the-variants.{TXCOUNT};
 ghost use Rattle.manual.specs.declared.Sr.the-variants.{MBF};
 ghost use Rattle.manual.specs.Manual.{readField};
+ghost use Rattle.sequences.specs.Sequence.{tooDeep};
 ghost use Rattle.runs.specs.Run.{left, put};
-ghost use Rattle.runs.specs.Flush.{flushStates, flushLoop, flushRun, flushLeft};
+ghost use Rattle.words.specs.declared.transaction.Direction.the-variants.{Tx, Rx};
+ghost use Rattle.machine.specs.Poll.{failed as failedBy};
+ghost use Rattle.runs.specs.Flush.{firstError, flushStates, flushLoop, flushRun, flushLeft};
 use crate::log::limits;
 use crate::log::put;
 use crate::result::RunResult;
@@ -19,6 +23,7 @@ use manual::Register;
 use manual::Sr;
 use sequences::access::Ending;
 use sequences::driver::Lpspi;
+use sequences::sequence::too_deep;
 use words::transaction::Direction;
 use words::transaction::LpspiError;
 
@@ -45,6 +50,25 @@ fn read(script: &[u32], log: &mut [u32], made: usize, at: u32) -> u32
     value
 }
 
+fn has_error(status: u32) -> bool
+    ensures { λ r. ⌜ r ≡ (failedBy Rx status || failedBy Tx status) ⌝ }
+{
+    if failed(Direction::Rx, status) {
+        return true;
+    }
+    failed(Direction::Tx, status)
+}
+
+// Receive error, then transmit error. The loop asks for either at once, and which it was when it has ended.
+fn error_of(status: u32) -> Ending
+    ensures { λ r. ⌜ r ≡ firstError status ⌝ }
+{
+    if failed(Direction::Rx, status) {
+        return Ending::Err(LpspiError::Fifo(Direction::Rx));
+    }
+    Ending::Err(LpspiError::Fifo(Direction::Tx))
+}
+
 fn is_busy(status: u32) -> bool
     ensures { λ r. ⌜ r ≡ eqb (readField (SrField MBF) status) 1 ⌝ }
 {
@@ -58,7 +82,17 @@ fn is_empty(counts: u32) -> bool
     Field::Fsr(Fsr::TXCOUNT).read(counts) == 0
 }
 
-// One polling loop: it yields either error, Ok, or Stopped where budget or script is used up before a read.
+// PARAM has an exponent over 4. A peripheral answers it as before, so the answer before, which had none, is asked first: one test a poll.
+fn is_deep(param: u32, fit: u32) -> bool
+    ensures { λ r. ⌜ (tooDeep fit ≡ false → r ≡ tooDeep param) ⌝ }
+{
+    if param == fit {
+        return false;
+    }
+    too_deep(param)
+}
+
+// One polling loop: it yields either error, 7, Ok, or Stopped where budget or script is used up before a read.
 fn poll(budget: usize, script: &[u32], log: &mut [u32]) -> Flushed
     requires { ⌜ 2 * budget ≤ length (now log) ⌝ }
     ensures { λ r. ⌜ (flushLeft r (now (log .exit)) ≡ flushLoop (now (script .entry)) budget (now (log .entry)))
@@ -66,17 +100,15 @@ fn poll(budget: usize, script: &[u32], log: &mut [u32]) -> Flushed
 {
     let end = least(budget, script.len());
     let mut made: usize = 0;
+    let mut fit: u32 = 0;
     let ending = loop {
         if end <= made {
             break Ending::Stopped;
         }
         let status = read(script, log, made, Register::SR.offset());
         made += 1;
-        if failed(Direction::Rx, status) {
-            break Ending::Err(LpspiError::Fifo(Direction::Rx));
-        }
-        if failed(Direction::Tx, status) {
-            break Ending::Err(LpspiError::Fifo(Direction::Tx));
+        if has_error(status) {
+            break error_of(status);
         }
         if is_busy(status) {
             continue;
@@ -84,8 +116,12 @@ fn poll(budget: usize, script: &[u32], log: &mut [u32]) -> Flushed
         if end <= made {
             break Ending::Stopped;
         }
-        read(script, log, made, Register::PARAM.offset());
+        let param = read(script, log, made, Register::PARAM.offset());
         made += 1;
+        if is_deep(param, fit) {
+            break Ending::FifoExponent;
+        }
+        fit = param;
         if end <= made {
             break Ending::Stopped;
         }

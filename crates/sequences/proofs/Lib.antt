@@ -2,5 +2,5 @@ mod Lists
 pub mod ChangeLaws
 pub mod CallLaws
 pub mod ResetLaws
-pub mod SizeLaws
+pub mod DepthLaws
 pub mod EndingLaws

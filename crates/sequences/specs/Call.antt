@@ -3,7 +3,7 @@
 use Prim.Native.Nat.{ℕ}
 use mathlib.Core.Bool.{true, false, cond}
 use mathlib.Core.List.{List, [], _∷_, _++_}
-use Rattle.manual.specs.declared.Register.the-variants.{PARAM, CR, SR, CFGR1, CCR, FCR, FSR, TCR, TDR, RDR}
+use Rattle.manual.specs.declared.Register.the-variants.{CR, SR, CFGR1, CCR, FCR, FSR, TCR, TDR, RDR}
 use Rattle.words.specs.declared.transaction.Direction.the-variants.{Tx}
 use Rattle.words.specs.Clock.{clockWord}
 use Rattle.sequences.specs.declared.access.Access.{Access}
@@ -18,7 +18,7 @@ use Rattle.sequences.specs.declared.call.Call.the-variants.{SetSamplePoi
 use Rattle.sequences.specs.declared.sequence.Change.the-variants.{ClearFifo as ClearOne, Enable, Restore, Controller, HalfFull}
 use Rattle.sequences.specs.declared.sequence.Change.the-variants.{Watermark, Sample, Peripheral, Polarity}
 use Rattle.sequences.specs.declared.sequence.Move.{Move}
-use Rattle.sequences.specs.declared.sequence.Move.the-variants.{Keep, Look, Wait, WaitClock, Size, Arrived, Set, Write}
+use Rattle.sequences.specs.declared.sequence.Move.the-variants.{Keep, Look, Wait, WaitClock, Size, Sizes, Arrived, Set, Write}
 use Rattle.sequences.specs.declared.sequence.Sequence.{Sequence}
 use Rattle.sequences.specs.Driver.{startDriver}
 use Rattle.sequences.specs.Sequence.{sequenceStart, moveAccess, moved, modify, moveAt}
@@ -48,7 +48,7 @@ movesOf (ClearStatus flags) = clearStatus (flags .bits)
 movesOf IsEnabled = Look CR ∷ []
 movesOf (SetEnable on) = modify (Enable on)
 movesOf (ClearFifo d) = modify (ClearOne d)
-movesOf GetFifoStatus = Keep PARAM ∷ Look FSR ∷ []
+movesOf GetFifoStatus = Sizes ∷ Look FSR ∷ []
 movesOf ReadData = Arrived ∷ Look RDR ∷ []
 movesOf (EnqueueData word) = Write TDR word ∷ []
 movesOf (EnqueueTransaction t) = Write TCR (t .0) ∷ []

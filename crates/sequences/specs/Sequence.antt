@@ -2,7 +2,7 @@
 -- with only the named fields changed (Modify). `write_reg!` of fields is Set, of a word Write.
 -- Assumes nothing.
 use Prim.Native.Nat.{ℕ, _+_, _-_, _/_, _^_, min}
-use mathlib.Core.Bool.{true, false, cond, not}
+use mathlib.Core.Bool.{Bool, true, false, cond, not, _||_}
 use mathlib.Core.List.{List, [], _∷_}
 use lib.Dec.{ltb, eqb}
 use lib.ListN.{getD, set, replicate}
@@ -33,7 +33,7 @@ use Rattle.sequences.specs.declared.sequence.Change.{Change}
 use Rattle.sequences.specs.declared.sequence.Change.the-variants.{Reset, Release, ClearFifos, ClearFifo, Enable, Restore}
 use Rattle.sequences.specs.declared.sequence.Change.the-variants.{Controller, HalfFull, Watermark, Sample, Peripheral, Polarity}
 use Rattle.sequences.specs.declared.sequence.Move.{Move}
-use Rattle.sequences.specs.declared.sequence.Move.the-variants.{Keep, KeepClock, Look, Wait, WaitClock, Size, Arrived}
+use Rattle.sequences.specs.declared.sequence.Move.the-variants.{Keep, KeepClock, Look, Wait, WaitClock, Size, Sizes, Arrived}
 use Rattle.sequences.specs.declared.sequence.Move.the-variants.{Modify, Set, Write, Put, End}
 use Rattle.sequences.specs.declared.sequence.Sequence.{Sequence}
 use Rattle.sequences.specs.Driver.{withClock}
@@ -93,13 +93,18 @@ abbrev pub exponentOf : Direction → ℕ → ℕ
 exponentOf Tx param = readField (Param TXFIFO) param
 exponentOf Rx param = readField (Param RXFIFO) param
 
--- the words of a FIFO of at most 16 words; no exponent over 4 comes to be asked (`SizeLaws`): `Size` refuses it with 7
-abbrev pub sizeOf : ℕ → ℕ
-sizeOf exponent = 2 ^ min exponent 4
+-- "an exponent over 4 in either field"
+abbrev pub tooDeep : ℕ → Bool
+tooDeep param = ltb 4 (exponentOf Tx param) || ltb 4 (exponentOf Rx param)
 
--- a watermark is at most the FIFO's size less one
+-- the words of a direction's FIFO, 2^exponent, 16 at most; no exponent over 4 comes to be asked, since 7 refuses it (`DepthLaws`, and of
+-- polls machine's `BoundLaws`)
+abbrev pub depthOf : Direction → ℕ → ℕ
+depthOf d param = 2 ^ min (exponentOf d param) 4
+
+-- a watermark is at most the FIFO's depth less one
 abbrev pub levelOf : Direction → ℕ → ℕ → ℕ
-levelOf d watermark param = min watermark (sizeOf (exponentOf d param) - 1)
+levelOf d watermark param = min watermark (depthOf d param - 1)
 
 -- the field of a direction's watermark
 abbrev pub waterOf : Direction → Field
@@ -145,7 +150,7 @@ settingsOf (ClearFifo d) kept = (fifoReset d, 1) ∷ []
 settingsOf (Enable on) kept = (Cr MEN, flagOf on) ∷ []
 settingsOf Restore kept = (Cr MEN, readField (Cr MEN) (keptOf CR kept)) ∷ []
 settingsOf Controller kept = (Cfgr1 SAMPLE, 1) ∷ (Cfgr1 MASTER, 1) ∷ []
-settingsOf HalfFull kept = (Fcr TXWATER, sizeOf (exponentOf Tx (keptOf PARAM kept)) / 2) ∷ (Fcr RXWATER, 0) ∷ []
+settingsOf HalfFull kept = (Fcr TXWATER, depthOf Tx (keptOf PARAM kept) / 2) ∷ (Fcr RXWATER, 0) ∷ []
 settingsOf (Watermark d watermark) kept = (waterOf d, levelOf d watermark (keptOf PARAM kept)) ∷ []
 settingsOf (Sample p) kept = (Cfgr1 SAMPLE, sampleOf p) ∷ []
 settingsOf (Peripheral on) kept = (Cfgr1 MASTER, flagOf (not on)) ∷ []
@@ -165,6 +170,7 @@ moveAccess (Look r) s = Read r
 moveAccess Wait s = Read CR
 moveAccess (WaitClock c) s = Read CR
 moveAccess (Size d) s = Read PARAM
+moveAccess Sizes s = Read PARAM
 moveAccess Arrived s = Read RSR
 moveAccess (Modify c) s = WriteWord (changeRegister c) (changed c (s .kept) (s .held))
 moveAccess (Set c) s = WriteWord (changeRegister c) (changed c (s .kept) 0)
@@ -175,7 +181,7 @@ moveAccess End s = Done Ok
 -- The sequence after a move that was answered v.
 -- KeepClock: `soft_reset` writes DBT and SCKDIV from the driver's cache.
 -- WaitClock: the cache takes the new DBT and SCKDIV once MEN has read 0, before the check for the CCR write.
--- Size: 7 right after PARAM, where the direction's exponent is over 4.
+-- Size: 7 right after PARAM, where the direction's exponent is over 4. Sizes: the same, where either exponent is.
 -- Arrived: RDR only if RXEMPTY is 0; otherwise the read of RDR is passed over.
 abbrev pub moved : Move → Sequence → ℕ → Sequence
 moved (Keep r) s v = onward (keeping r v s)
@@ -184,6 +190,7 @@ moved (Look r) s v = onward (holding v s)
 moved Wait s v = cond (eqb (readField (Cr MEN) v) 1) s (onward s)
 moved (WaitClock c) s v = cond (eqb (readField (Cr MEN) v) 1) s (onward (driving (withClock c (s .driver)) s))
 moved (Size d) s v = cond (ltb 4 (exponentOf d v)) (oversized s) (onward (keeping PARAM v s))
+moved Sizes s v = cond (tooDeep v) (oversized s) (onward (keeping PARAM v s))
 moved Arrived s v = cond (eqb (readField (Rsr RXEMPTY) v) 0) (onward (keeping RSR v s)) (onward (onward (keeping RSR v s)))
 moved (Modify c) s v = onward s
 moved (Set c) s v = onward s

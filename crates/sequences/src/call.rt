@@ -194,11 +194,7 @@ impl Call {
                 Move::Modify(Change::ClearFifo(d)),
                 place,
             ),
-            Call::GetFifoStatus => two(
-                Move::Keep(Register::PARAM),
-                Move::Look(Register::FSR),
-                place,
-            ),
+            Call::GetFifoStatus => two(Move::Sizes, Move::Look(Register::FSR), place),
             Call::ReadData => two(Move::Arrived, Move::Look(Register::RDR), place),
             Call::EnqueueData(word) => one(Move::Write(Register::TDR, word), place),
             Call::EnqueueTransaction(t) => one(Move::Write(Register::TCR, t.as_raw()), place),

@@ -1,13 +1,13 @@
 // A call as a sequence of moves, each one register access, and what a move does.
 ghost use mathlib.Core.Path.{_≡_};
-ghost use Prim.Native.Nat.{_<_, _≤_, min};
+ghost use Prim.Native.Nat.{_<_, min};
 ghost use lib.Dec.{eqb};
 ghost use Rattle.manual.specs.declared.Cr.the-variants.{MEN};
 ghost use Rattle.manual.specs.declared.Field.the-variants.{Cr as CrField};
 ghost use Rattle.manual.specs.Manual.{readField};
 ghost use Rattle.manual.specs.Bits.{setBits};
 ghost use Rattle.sequences.specs.Sequence.{slotOf, keptOf, sequenceStart, onward, holding, keeping, oversized, driving};
-ghost use Rattle.sequences.specs.Sequence.{exponentOf, sizeOf, levelOf, waterOf, fifoReset, polarized, cachedIn};
+ghost use Rattle.sequences.specs.Sequence.{exponentOf, tooDeep, depthOf, levelOf, waterOf, fifoReset, polarized, cachedIn};
 ghost use Rattle.sequences.specs.Sequence.{changeRegister, changed, moveAccess, moved};
 use crate::access::Access;
 use crate::access::Ending;
@@ -44,7 +44,7 @@ pub enum Change {
     Restore,
     // CFGR1: MASTER 1, SAMPLE 1.
     Controller,
-    // FCR: RXWATER 0, TXWATER half the FIFO's size.
+    // FCR: RXWATER 0, TXWATER half the FIFO's depth.
     HalfFull,
     // FCR: the direction's watermark.
     Watermark(Direction, u8),
@@ -69,6 +69,8 @@ pub enum Move {
     WaitClock(ClockConfigs),
     // Read PARAM and keep it; the call is refused where the direction's exponent is over 4.
     Size(Direction),
+    // The same of both directions.
+    Sizes,
     // Read RSR and keep it; the next move is passed over where RXEMPTY is not 0.
     Arrived,
     // Write the register as it was looked at, changed.
@@ -135,18 +137,28 @@ fn least(a: u32, b: u32) -> u32
     if a < b { a } else { b }
 }
 
-// The words of a FIFO.
-fn size(exponent: u32) -> u32
-    ensures { λ r. ⌜ (r ≡ sizeOf exponent) × (1 ≤ r) ⌝ }
+// An exponent over 4, in either direction.
+pub fn too_deep(param: u32) -> bool
+    ensures { λ r. ⌜ r ≡ tooDeep param ⌝ }
 {
-    1 << least(exponent, 4)
+    if 4 < exponent(Direction::Tx, param) {
+        return true;
+    }
+    4 < exponent(Direction::Rx, param)
 }
 
-// The watermark that is set: at most the FIFO's size less one.
+// The words of a direction's FIFO.
+pub fn depth(direction: Direction, param: u32) -> u32
+    ensures { λ r. ⌜ r ≡ depthOf direction param ⌝ }
+{
+    1 << least(exponent(direction, param), 4)
+}
+
+// The watermark that is set: at most the FIFO's depth less one.
 pub fn level(direction: Direction, watermark: u8, param: u32) -> u32
     ensures { λ r. ⌜ r ≡ levelOf direction watermark param ⌝ }
 {
-    least(watermark as u32, size(exponent(direction, param)) - 1)
+    least(watermark as u32, depth(direction, param) - 1)
 }
 
 // The direction's watermark in FCR.
@@ -327,7 +339,7 @@ impl Sequence {
                 Field::Cfgr1(Cfgr1::SAMPLE).set(1, Field::Cfgr1(Cfgr1::MASTER).set(1, word))
             }
             Change::HalfFull => Field::Fcr(Fcr::TXWATER).set(
-                size(exponent(Direction::Tx, self.kept(Register::PARAM))) / 2,
+                depth(Direction::Tx, self.kept(Register::PARAM)) / 2,
                 Field::Fcr(Fcr::RXWATER).set(0, word),
             ),
             Change::Watermark(d, w) => water(d).set(level(d, w, self.kept(Register::PARAM)), word),
@@ -355,6 +367,7 @@ impl Sequence {
             Move::Wait => Access::Read(Register::CR),
             Move::WaitClock(_) => Access::Read(Register::CR),
             Move::Size(_) => Access::Read(Register::PARAM),
+            Move::Sizes => Access::Read(Register::PARAM),
             Move::Arrived => Access::Read(Register::RSR),
             Move::Modify(c) => Access::Write(c.register(), self.apply(c, self.held)),
             Move::Set(c) => Access::Write(c.register(), self.apply(c, 0)),
@@ -391,6 +404,12 @@ impl Sequence {
             }
             Move::Size(d) => {
                 if 4 < exponent(d, value) {
+                    return self.refuse();
+                }
+                self.keep(Register::PARAM, value).advance()
+            }
+            Move::Sizes => {
+                if too_deep(value) {
                     return self.refuse();
                 }
                 self.keep(Register::PARAM, value).advance()

@@ -7,7 +7,7 @@
 //                the antenna
 //
 // An element has 8 bits, unless the first line goes on with the gate's and the antenna's width (8, 16 or 32), as in `M S2 P3 16 16`.
-// With exponent 0 or 1 a board never sends a word, since its command takes a place too.
+// With exponent 0 a board never sends a word, since its command takes the one place.
 // A separate read buffer is as long as the longer line and starts as zeros. Spaces between events are passed over. A board has at most 512
 // elements, and a trial at most 65,536 letters and spaces of events. A trial with a line of another form prints `bad` and its number, from
 // 1 on. Lines missing at the end count as empty. An input of more than 262,144 bytes prints `bad`, and none of its trials is run.

@@ -2,7 +2,7 @@
 
 // SR, PARAM and FSR of a poll: ready on either side, no space, no word.
 const READY: [u32; 3] = [0, 0x404, 0x1_0000];
-const NO_SPACE: [u32; 3] = [0, 0x404, 0x1_0004];
+const NO_SPACE: [u32; 3] = [0, 0x404, 0x1_0010];
 const NO_WORD: [u32; 3] = [0, 0x404, 0];
 // Bits of SR and of CR.
 const RECEIVE_ERROR: u32 = 1 << 12;

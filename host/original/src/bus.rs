@@ -174,6 +174,8 @@ pub struct Happened {
     pub lost_received: u32,
     /// Words made up where there was none to be sent.
     pub made_up: u32,
+    /// Whether the transmit queue was full once.
+    pub filled: bool,
     /// Whether the transfer ended with a write of SR, as a recovery does.
     pub recovered: bool,
 }
@@ -362,6 +364,7 @@ impl End {
             self.happened.lost_sent += 1;
         } else {
             self.transmit.push_back(queued);
+            self.happened.filled |= self.transmit.len() == self.capacity();
         }
     }
 

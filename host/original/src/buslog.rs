@@ -1,7 +1,7 @@
 //! The program `buslog` over the original: four lines of text ask for an exchange,
 //! and its run is listed. Written from the scope document's text.
 
-use crate::{Driver, Element, Transfer, run};
+use crate::{Driver, Element, Transfer, run, too_deep, until_too_deep};
 use std::array;
 
 /// A longer input is bad.
@@ -95,13 +95,17 @@ where
         lsb: asked.lsb,
         ..Driver::default()
     };
-    let call = W::call(Transfer::ExchangeSeparate {
-        read: &mut read,
-        write,
+    let (number, outcome, log) = until_too_deep(asked.budget, too_deep, |budget| {
+        read.fill(W::default());
+        let call = W::call(Transfer::ExchangeSeparate {
+            read: &mut read,
+            write,
+        });
+        let mut log = vec![0; 2 * budget];
+        let outcome = run(call, driver, budget, &asked.script, &mut log);
+        (outcome, log)
     });
-    let mut log = vec![0; 2 * asked.budget];
-    let outcome = run(call, driver, asked.budget, &asked.script, &mut log);
-    let number = outcome.number().expect("the original did not panic");
+    let number = number.expect("the original did not panic");
     let (accesses, answers) = (outcome.accesses, outcome.answers);
     let result = [number as usize, accesses, answers];
     print(&log[..2 * accesses], &read, result)

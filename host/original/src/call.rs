@@ -144,7 +144,7 @@ pub enum Call<'a> {
     },
 }
 
-/// The words in each FIFO and its capacity, as the driver takes it.
+/// The words in each FIFO and its depth; as published, PARAM's field.
 #[derive(Debug, Clone, Copy, PartialEq, Eq, Default)]
 #[allow(missing_docs)]
 pub struct FifoStatus {

@@ -1,11 +1,14 @@
-//! imxrt-hal's lpspi.rs, unchanged, over a script and a log in place of its
-//! registers.
+//! imxrt-hal's lpspi.rs over a script and a log in place of its registers. Of its text
+//! two expressions are replaced, the capacities of `fifo_status` by the FIFOs' depths
+//! (document 02, No. 5), and nothing else.
 //!
 //! [`run`] makes one call of the driver. A read takes the next answer of the
 //! script; the log has two words for each access: the register's offset, plus
-//! 0x1000 for a write, and the value. Commands, clocks and packing can also be had
+//! 0x1000 for a write, and the value. [`until_too_deep`] ends a run with 7, which the
+//! original does not have. Commands, clocks and packing can also be had
 //! by themselves. [`buslog`] makes a run from text and lists it. In [`bus`] two
-//! drivers exchange words.
+//! drivers exchange words. [`run_published`] makes a call of lpspi.rs as it was
+//! published.
 //!
 //! The source is not part of the repository: see `build.rs`. What it uses has
 //! stand-ins: `hal`, `ral` and `iomuxc` here, other crates in `stand-ins`.
@@ -14,6 +17,7 @@
 pub mod bus;
 mod buslog;
 mod call;
+mod exponent;
 
 #[cfg(original)]
 mod hal;
@@ -26,10 +30,8 @@ mod missing;
 mod ral;
 #[cfg(original)]
 mod registers;
-#[cfg(original)]
-mod run;
 
-// The original: `mod lpspi`.
+// The original: `mod lpspi`, and `mod published`.
 #[cfg(original)]
 include!(concat!(env!("OUT_DIR"), "/modules.rs"));
 
@@ -41,16 +43,19 @@ pub use call::{
     Call, ClockConfigs, Command, Direction, Driver, Element, Failure, FifoStatus, Outcome,
     Transfer, Value,
 };
+pub use exponent::{too_deep, until_too_deep};
+#[cfg(original)]
+pub use lpspi::run::run;
 #[cfg(original)]
 pub use lpspi::words::{
     clock_word, command_word, pack_word, pack_words, unpack_word, unpack_words,
 };
 #[cfg(not(original))]
 pub use missing::{
-    clock_word, command_word, pack_word, pack_words, run, unpack_word, unpack_words,
+    clock_word, command_word, pack_word, pack_words, run, run_published, unpack_word, unpack_words,
 };
 #[cfg(original)]
-pub use run::run;
+pub use published::run::run as run_published;
 
 /// The path of the source.
 pub const SOURCE: &str = env!("LPSPI_SOURCE");

@@ -11,6 +11,10 @@ pub fn run(_: Call, _: Driver, _: usize, _: &[u32], _: &mut [u32]) -> Outcome {
     missing()
 }
 
+pub fn run_published(_: Call, _: Driver, _: usize, _: &[u32], _: &mut [u32]) -> Outcome {
+    missing()
+}
+
 pub fn command_word(_: &Command) -> Result<u32, Failure> {
     missing()
 }

@@ -1,7 +1,7 @@
-//! Runs of the original.
+//! Runs. A child module of lpspi.rs, which there is with depths and as published.
 
+use super::calls;
 use crate::call::{Call, Driver, Failure, Outcome};
-use crate::lpspi::calls;
 use crate::ral::{Instance, lpspi::RegisterBlock};
 use crate::registers::{Registers, Stopped};
 use std::panic::{AssertUnwindSafe, catch_unwind};

@@ -1,6 +1,6 @@
 //! The branches of transfers and flushes.
 
-use super::registers::{CR, FSR, MEN, PARAM, RDR, SR, TCR, TDR, WRITE};
+use super::registers::{CR, FSR, MEN, PARAM, RDR, SR, TCR, TDR, WRITE, exponents};
 use super::run::{Cause, Left};
 use super::transfer::{Element, Kind, Sides, Transfer};
 
@@ -92,6 +92,28 @@ impl Turn {
     }
 }
 
+/// The fields of PARAM that have an exponent over 4.
+#[derive(Debug, Clone, Copy, PartialEq, Eq, PartialOrd, Ord)]
+pub enum Fields {
+    Tx,
+    Rx,
+    Both,
+}
+
+impl Fields {
+    pub const ALL: [Self; 3] = [Self::Tx, Self::Rx, Self::Both];
+
+    /// Those of an answer, if there are any.
+    pub fn over(param: u32) -> Option<Self> {
+        match exponents(param).map(|exponent| exponent > 4) {
+            [true, false] => Some(Self::Tx),
+            [false, true] => Some(Self::Rx),
+            [true, true] => Some(Self::Both),
+            [false, false] => None,
+        }
+    }
+}
+
 /// A branch of a transfer.
 #[derive(Debug, Clone, Copy, PartialEq, Eq, PartialOrd, Ord)]
 pub enum Branch {
@@ -111,6 +133,11 @@ pub enum Branch {
     Ignored(Turn),
     /// No space, or no word.
     Unready(Turn),
+    /// An exponent over 4, of these fields.
+    TooDeep(Turn, Fields),
+    /// A transmit FIFO of that exponent was just full, or had one place left.
+    Full(u32),
+    LastPlace(u32),
     /// The command, or a word, written or read.
     Word(Turn),
     /// A last word of fewer elements.
@@ -150,10 +177,12 @@ impl Branch {
             Lsb(false),
             Lsb(true),
         ];
-        all.extend([0, 1, 3, 4, 5].map(Ended));
+        all.extend([0, 1, 3, 4, 5, 7].map(Ended));
         all.extend([0, 1, 2].map(Waited));
+        all.extend((0..=4).flat_map(|exponent| [Full(exponent), LastPlace(exponent)]));
         for turn in [&[Turn::Command], &sides[..]].concat() {
             all.extend([Error(turn), Ignored(turn), Unready(turn), Word(turn)]);
+            all.extend(Fields::ALL.map(|fields| TooDeep(turn, fields)));
         }
         for turn in [&[Turn::Command], &sides[..], &[Turn::Recovery]].concat() {
             all.extend(stops(turn.table()).map(|(place, cause)| Stopped(turn, place, cause)));
@@ -188,6 +217,8 @@ pub enum FlushBranch {
     Busy,
     /// Not busy, and words in the transmit FIFO.
     Filled,
+    /// An exponent over 4, of these fields.
+    TooDeep(Fields),
     /// Before SR, PARAM or FSR.
     Stopped(usize, Cause),
 }
@@ -197,7 +228,8 @@ impl FlushBranch {
     pub fn all() -> Vec<Self> {
         use FlushBranch::*;
         let mut all = vec![BothErrors, Busy, Filled];
-        all.extend([0, 2, 3, 4, 5].map(Ended));
+        all.extend([0, 2, 3, 4, 5, 7].map(Ended));
+        all.extend(Fields::ALL.map(TooDeep));
         all.extend(stops("RRR").map(|(place, cause)| Stopped(place, cause)));
         all
     }

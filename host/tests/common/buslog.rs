@@ -60,7 +60,7 @@ pub fn printed<W: UpperHex>(left: &Left<W>) -> String {
 /// accesses.
 pub fn largest(width: usize) -> String {
     const WORDS: usize = 128;
-    let (no_space, ready) = ([0, 0x404, 4], [0, 0x404, 0x1_0000]);
+    let (no_space, ready) = ([0, 0x404, 16], [0, 0x404, 0x1_0000]);
     let mut script = no_space.repeat((MAX_BUDGET - 4 - 8 * WORDS) / 3);
     script.extend(ready.repeat(1 + WORDS));
     for word in 0..WORDS as u32 {

@@ -3,12 +3,15 @@
 use std::fs;
 use std::path::Path;
 
+/// The text of a page of docs/.
+pub fn document(page: &str) -> String {
+    let docs = Path::new(env!("CARGO_MANIFEST_DIR")).join("../docs");
+    fs::read_to_string(docs.join(page)).expect("the page is there")
+}
+
 /// The inputs of a page of docs/, and what is shown after each in a block of that name.
 pub fn shown(page: &str, name: &str) -> Vec<(String, String)> {
-    let path = Path::new(env!("CARGO_MANIFEST_DIR"))
-        .join("../docs")
-        .join(page);
-    let text = fs::read_to_string(path).expect("the page is there");
+    let text = document(page);
     let pieces: Vec<_> = text.split("```").collect();
     // Text, an input, text, what it prints, and so on; text at last.
     let pairs = pieces.chunks_exact(4).map(|pieces| {

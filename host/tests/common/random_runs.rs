@@ -2,7 +2,10 @@
 
 use super::branches::{Branch, FlushBranch};
 use super::cases::Tally;
-use super::registers::{BUSY, CR, ERRORS, FSR, PARAM, RXCOUNT, SR, TXCOUNT, TXFIFO, WRITE};
+use super::registers::{
+    BUSY, CR, ERRORS, FSR, MEN, PARAM, RXCOUNT, RXFIFO, SR, TXCOUNT, TXFIFO, WRITE, exponents,
+    param,
+};
 use super::run::{Left, Limits, MAX_BUDGET};
 use super::transfer::{Element, Kind, Transfer, port_flush};
 use super::{Random, walk};
@@ -12,7 +15,7 @@ use lpspi_host::{CcrCache, Lpspi, Mode, Pcs};
 pub struct Mood {
     error: u32,
     unready: u32,
-    tight: u32,
+    deep: u32,
     idle: u32,
 }
 
@@ -22,7 +25,7 @@ impl Mood {
         Self {
             error: one_of([0, 4, 16, 64]),
             unready: one_of([0, 8, 32, 128]),
-            tight: one_of([0, 0, 64, 128]),
+            deep: one_of([0, 0, 1, 4]),
             idle: one_of([0, 32, 128, 256]),
         }
     }
@@ -36,19 +39,25 @@ impl Mood {
 
     /// An answer that may be to any register.
     pub fn answer(&self, random: &mut Random) -> u32 {
-        // As SR no error, as PARAM much space, as FSR words to receive; one bit
-        // makes the space, and one the words.
-        let mut word = random.word() & !(ERRORS | RXCOUNT | 0xE0);
-        word |= 1 << (5 + random.below(3)) | 1 << (16 + random.below(5));
+        // As SR no error, as PARAM exponents up to 4, as FSR words to receive. The
+        // same bits are TXFIFO and TXCOUNT: 3 or 4 is a FIFO with space, of 0 to 2
+        // some show it full to another.
+        let mut word = random.word() & !(ERRORS | RXCOUNT | TXFIFO | RXFIFO);
+        word |= param([3 + random.below(2) as u32, random.below(5) as u32]);
+        word |= 1 << (16 + random.below(5));
         if random.chance(self.error) {
+            // As PARAM these are an exponent over 4.
             word |= random.word() & ERRORS;
         }
         if random.chance(self.unready) {
-            word &= !(RXCOUNT | TXFIFO);
+            word = word & !(RXCOUNT | TXFIFO) | random.below(3) as u32;
         }
-        if random.chance(self.tight) {
-            // TXFIFO or TXCOUNT is 0 to 31, or 0 to 3.
-            word &= if random.flag() { !0xE0 } else { !0xFC };
+        if random.chance(self.deep) {
+            word |= if random.flag() {
+                0xE8
+            } else {
+                0x400 | 1 << (8 + random.below(2))
+            };
         }
         if random.chance(self.idle) {
             // Not busy, or TXCOUNT is 0.
@@ -58,13 +67,75 @@ impl Mood {
     }
 }
 
-/// Puts any word where no later access depends on the answer.
-fn free_answers<W>(random: &mut Random, script: &mut [u32], ended: &Left<W>) {
+/// Exponents of which one at least is over 4.
+fn over_4(random: &mut Random) -> [u32; 2] {
+    let small = random.below(5) as u32;
+    let over = [5, 5, 6, 8, 16, 31, 32, 255][random.below(8)];
+    match random.below(3) {
+        0 => [over, small],
+        1 => [small, over],
+        _ => [over, 5 + random.below(251) as u32],
+    }
+}
+
+/// Puts other answers in place of those that a run has used, of which it would have
+/// made the same: any exponents and counts that leave a FIFO as full or as empty. PARAM
+/// is one answer in half of the runs, as a peripheral has it, mostly of 16 words, and
+/// else any.
+pub fn other_answers<W>(random: &mut Random, script: &mut [u32], ended: &Left<W>) {
     let reads = ended.made().filter(|(register, _)| *register < WRITE);
-    for (answer, (register, _)) in script.iter_mut().zip(reads) {
-        if !matches!(register, PARAM | CR | SR | FSR) {
-            *answer = random.word();
-        }
+    let registers: Vec<u32> = reads.map(|(register, _)| register).collect();
+    // Of the transmit FIFO, as it was and as it is chosen.
+    let mut depths = [1u32; 2];
+    let always = random.flag().then(|| {
+        let exponents = match random.flag() {
+            true => [4; 2],
+            false => [1 + random.below(4) as u32, random.below(5) as u32],
+        };
+        random.word() & !(TXFIFO | RXFIFO) | param(exponents)
+    });
+    for (place, register) in registers.into_iter().enumerate() {
+        let (answer, any) = (script[place], random.word());
+        let keep = |mask: u32| any & !mask | answer & mask;
+        script[place] = match register {
+            CR => keep(MEN),
+            SR => keep(ERRORS | BUSY),
+            PARAM => {
+                let found = exponents(answer);
+                let any = always.unwrap_or(
+                    any & !(TXFIFO | RXFIFO) | param([0; 2].map(|_| random.below(5) as u32)),
+                );
+                let mut chosen = exponents(any);
+                if found.iter().any(|exponent| *exponent > 4) {
+                    chosen = over_4(random);
+                } else {
+                    // A FIFO that has a word and space has two places or more.
+                    let count = script.get(place + 1).map_or(0, |fsr| fsr & TXCOUNT);
+                    let some = count > 0 && count < 1 << found[0];
+                    chosen[0] = chosen[0].max(u32::from(some));
+                    depths = [found[0], chosen[0]].map(|exponent| 1u32 << exponent);
+                }
+                any & !(TXFIFO | RXFIFO) | param(chosen)
+            }
+            FSR => {
+                let (count, edge) = (answer & TXCOUNT, random.flag());
+                let mut from =
+                    |least: u32, limit: u32| least + random.below((limit - least) as usize) as u32;
+                let sent = match count {
+                    0 => 0,
+                    _ if count < depths[0] && edge => depths[1] - 1,
+                    _ if count < depths[0] => from(1, depths[1]),
+                    _ if edge => depths[1],
+                    _ => from(depths[1], 32),
+                };
+                let received = match answer & RXCOUNT {
+                    0 => 0,
+                    _ => from(1, 32),
+                };
+                any & !(TXCOUNT | RXCOUNT) | received << 16 | sent
+            }
+            _ => any,
+        };
     }
 }
 
@@ -73,7 +144,7 @@ fn free_answers<W>(random: &mut Random, script: &mut [u32], ended: &Left<W>) {
 pub fn random_limits<W>(
     random: &mut Random,
     words: usize,
-    port: impl FnOnce(&Limits) -> Left<W>,
+    port: impl Fn(&Limits) -> Left<W>,
 ) -> Limits {
     let mood = Mood::new(random);
     let len = match random.below(64) {
@@ -84,10 +155,14 @@ pub fn random_limits<W>(
     };
     let script: Vec<u32> = (0..len).map(|_| mood.answer(random)).collect();
 
-    // Where the run would end by itself, if it does.
+    // Where the run would end by itself, if it does. Seldom with 7.
     let mut limits = Limits::new(MAX_BUDGET, &script);
-    let ended = port(&limits);
-    free_answers(random, &mut limits.script, &ended);
+    let mut ended = port(&limits);
+    while ended.number == 7 && random.chance(176) {
+        limits.script[ended.answers - 1] &= !(TXFIFO | RXFIFO) | param([3; 2]);
+        ended = port(&limits);
+    }
+    other_answers(random, &mut limits.script, &ended);
 
     limits.script.truncate(match random.below(8) {
         0 => ended.answers,
@@ -159,8 +234,8 @@ pub fn transfers<W: Element>(
     }
     tally.demand(&kind, |branch| match branch {
         Branch::Stopped(..) => 0,
-        // Rare: of recoveries only.
-        Branch::Waited(_) => 1,
+        // Rare: of recoveries only, and of one poll and field, or of one count.
+        Branch::Waited(_) | Branch::TooDeep(..) | Branch::Full(_) | Branch::LastPlace(_) => 1,
         _ => 20,
     });
 }
@@ -177,5 +252,8 @@ pub fn flushes(random: &mut Random, runs: usize, other: impl Fn(Lpspi, &Limits) 
         assert_eq!(left.number == 5, limits.refused());
         tally.count(walk::of_flush(&limits, &left));
     }
-    tally.demand(&"flush", |_| 20);
+    tally.demand(&"flush", |branch| match branch {
+        FlushBranch::TooDeep(_) => 5,
+        _ => 20,
+    });
 }

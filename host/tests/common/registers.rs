@@ -18,5 +18,16 @@ pub const RX_ERROR: u32 = 1 << 12;
 pub const ERRORS: u32 = TX_ERROR | RX_ERROR;
 pub const BUSY: u32 = 1 << 24;
 pub const TXFIFO: u32 = 0xFF;
+pub const RXFIFO: u32 = 0xFF << 8;
 pub const TXCOUNT: u32 = 0x1F;
 pub const RXCOUNT: u32 = 0x1F << 16;
+
+/// The exponents of an answer of PARAM: transmit, receive.
+pub fn exponents(param: u32) -> [u32; 2] {
+    [param & TXFIFO, (param & RXFIFO) >> 8]
+}
+
+/// An answer of PARAM, but for the other bits.
+pub fn param([tx, rx]: [u32; 2]) -> u32 {
+    rx << 8 | tx
+}

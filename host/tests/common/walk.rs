@@ -1,7 +1,7 @@
 //! Reads the branches of a run off its inputs and its log, by the rules of the scope
 //! document.
 
-use super::branches::{Along, Branch, FlushBranch, RECOVERY, Turn, restored};
+use super::branches::{Along, Branch, Fields, FlushBranch, RECOVERY, Turn, restored};
 use super::registers::{
     BUSY, ERRORS, FSR, PARAM, RX_ERROR, RXCOUNT, SR, TX_ERROR, TXCOUNT, TXFIFO,
 };
@@ -18,7 +18,8 @@ struct Walk<'a, W> {
     /// In the poll.
     place: usize,
     recovery: Along,
-    txfifo: u32,
+    /// The words of the transmit FIFO.
+    depth: u32,
     /// Words that are left to send and to receive.
     to_send: usize,
     to_receive: usize,
@@ -34,7 +35,7 @@ impl<W: Element> Walk<'_, W> {
         self.place += 1;
         match self.place {
             1 => self.status(value),
-            2 => self.txfifo = value & TXFIFO,
+            2 => self.sizes(value),
             3 => self.counts(value),
             _ => self.word(),
         }
@@ -56,10 +57,30 @@ impl<W: Element> Walk<'_, W> {
         }
     }
 
+    /// The run must end here where an exponent is over 4.
+    fn sizes(&mut self, param: u32) {
+        match Fields::over(param) {
+            Some(fields) => {
+                self.reached.insert(Branch::TooDeep(self.turn, fields));
+                self.depth = 0;
+            }
+            None => self.depth = 1 << (param & TXFIFO),
+        }
+    }
+
     fn counts(&mut self, fsr: u32) {
+        assert!(self.depth > 0, "FSR is read after an exponent over 4");
         let ready = match self.turn {
             Turn::Rx => fsr & RXCOUNT != 0,
-            _ => fsr & TXCOUNT < self.txfifo,
+            _ => {
+                let (count, exponent) = (fsr & TXCOUNT, self.depth.ilog2());
+                let full = count == self.depth;
+                self.reached.extend(full.then_some(Branch::Full(exponent)));
+                let last = count + 1 == self.depth;
+                self.reached
+                    .extend(last.then_some(Branch::LastPlace(exponent)));
+                count < self.depth
+            }
         };
         if !ready {
             self.reached.insert(Branch::Unready(self.turn));
@@ -154,7 +175,12 @@ impl<W: Element> Walk<'_, W> {
                 self.reached.insert(Branch::Restored(restored(left)));
             }
             (2 | 3, turn) => assert_eq!((turn, self.place), (Turn::Command, 1)),
+            (7, turn) => {
+                assert_ne!(turn, Turn::Recovery);
+                assert_eq!((self.place, self.depth), (2, 0));
+            }
             (4, turn) => {
+                assert!(self.depth > 0, "4 after an exponent over 4");
                 let place = match turn {
                     Turn::Recovery => self.recovery.place,
                     _ => self.place,
@@ -180,7 +206,7 @@ pub fn of_transfer<W: Element>(
         turn: Turn::Command,
         place: 0,
         recovery: Along::new(RECOVERY),
-        txfifo: 0,
+        depth: 1,
         to_send: transfer.words_to_send(),
         to_receive: transfer.words_to_receive(),
         unready: 0,
@@ -192,9 +218,10 @@ pub fn of_transfer<W: Element>(
 /// The branches of a flush.
 pub fn of_flush(limits: &Limits, left: &Left<u8>) -> BTreeSet<FlushBranch> {
     let mut reached = BTreeSet::from([FlushBranch::Ended(left.number)]);
-    let mut place = 0;
+    let (mut place, mut over) = (0, None);
     for (register, value) in left.made() {
         assert_eq!(register, [SR, PARAM, FSR][place]);
+        assert_eq!(over, None);
         place += 1;
         if register == SR && value & ERRORS == ERRORS {
             reached.insert(FlushBranch::BothErrors);
@@ -204,11 +231,17 @@ pub fn of_flush(limits: &Limits, left: &Left<u8>) -> BTreeSet<FlushBranch> {
         } else if register == FSR && value & TXCOUNT != 0 {
             reached.insert(FlushBranch::Filled);
             place = 0;
+        } else if register == PARAM {
+            over = Fields::over(value);
+            reached.extend(over.map(FlushBranch::TooDeep));
         }
     }
+    // It ends with 7 right after an exponent over 4, and nowhere else.
+    assert_eq!(left.number == 7, place == 2 && over.is_some());
     match left.number {
         0 => assert_eq!(place, 3),
         2 | 3 => assert_eq!(place, 1),
+        7 => assert_eq!(place, 2),
         4 => {
             reached.insert(FlushBranch::Stopped(place, left.cause(limits)));
         }

@@ -64,7 +64,7 @@ fn board<W: Both>([read, write]: [usize; 2], exponent: usize, lsb: bool) -> Boar
 #[cfg_attr(not(original), ignore = "the original is missing")]
 fn clean_exchanges() {
     for lsb in [false, true] {
-        for [a, b] in [[2, 2], [2, 4], [4, 3]] {
+        for [a, b] in [[1, 1], [1, 4], [4, 2]] {
             for [gate, antenna] in [
                 [[5, 3], [2, 5]],
                 [[9, 0], [9, 9]],
@@ -162,7 +162,7 @@ fn list<W: Both>(random: &mut Random) -> (usize, BTreeSet<Branch>) {
     let mut events = vec![];
     let total = boards[0].total();
     let words = total.div_ceil(Transfer::<W>::PER_WORD);
-    let sends = boards.iter().all(|board| board.exponent > 1) || total == 0;
+    let sends = boards.iter().all(|board| board.exponent > 0) || total == 0;
     let mut chooser = Chooser::new(random, manner, words, sends);
     // A flag was set.
     let mut flagged = false;
@@ -190,12 +190,11 @@ fn list<W: Both>(random: &mut Random) -> (usize, BTreeSet<Branch>) {
         let happened = bus.end(side).happened;
         let flags = happened.lost_received + happened.made_up;
         assert_eq!(happened.lost_sent, 0, "{case:?}: {side:?}");
-        // A command is only ever written into an empty queue; with FIFOs of two words
-        // no word follows it, and FIFOs of one get no command.
+        // A command is only ever written into an empty queue; with FIFOs of one word
+        // no word follows it.
         let exponent = bus.board(side).exponent;
         assert_eq!(happened.commands_behind, 0, "{case:?}: {side:?}");
-        assert!(happened.sent == 0 || exponent > 1, "{case:?}: {side:?}");
-        assert!(happened.commands == 0 || exponent > 0, "{case:?}: {side:?}");
+        assert!(happened.sent == 0 || exponent > 0, "{case:?}: {side:?}");
         assert!(flags == 0 || !bus.end(side).ok_twice(), "{case:?}");
         flagged |= flags > 0;
     }
@@ -221,7 +220,7 @@ fn lists<W: Both>(test: &'static str, count: u32) {
     }
     tally.demand(&test, |branch| match branch {
         Branch::BothOkLongest => 5,
-        Branch::LostAtGate => 10,
+        Branch::LostAtGate | Branch::Filled(_) => 10,
         _ => 20,
     });
 }

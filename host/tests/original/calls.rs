@@ -11,8 +11,8 @@ fn other_calls() {
     let fifo_status = FifoStatus {
         rxcount: 0x1F,
         txcount: 0x12,
-        rxcap: 5,
-        txcap: 4,
+        rxcap: 8,
+        txcap: 16,
     };
     let cases: [(Call, &[u32], Value, &str); 20] = [
         (
@@ -79,9 +79,9 @@ fn other_calls() {
         ),
         (
             Call::FifoStatus,
-            &[0xFFFF_0504, 0xFFFF_FFF2],
+            &[0xFFFF_0304, 0xFFFF_FFF2],
             Value::FifoStatus(fifo_status),
-            "R 04 FFFF0504, R 5C FFFFFFF2",
+            "R 04 FFFF0304, R 5C FFFFFFF2",
         ),
         (
             Call::ReadData,

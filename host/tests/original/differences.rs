@@ -2,7 +2,7 @@
 
 use crate::listed;
 use original::{Call, Direction, Driver, Element, Failure, Transfer, Value};
-use original::{pack_word, unpack_word};
+use original::{pack_word, run, run_published, unpack_word};
 use std::panic::catch_unwind;
 
 const START: Driver = Driver {
@@ -76,16 +76,31 @@ fn exponents_over_4() {
     assert!([panicked, enabled("00000008")].contains(&init(36)));
 }
 
-/// An exponent is taken for a depth: no space at one of two words, nor at none of one,
-/// nor at four of sixteen.
+/// As published an exponent is taken for a depth: no space at one of two words, nor at
+/// none of one, nor at four of sixteen. With the depths in its place there is.
 #[test]
 #[cfg_attr(not(original), ignore = "the original is missing")]
 fn space_in_the_transmit_fifo() {
     for poll in [[0, 1, 1], [0, 0, 0], [0, 4, 4]] {
-        let call = u8::call(Transfer::WriteNoRead(&[0]));
-        let (outcome, _) = listed(call, START, 50, &poll.repeat(9));
+        let (script, mut log) = (poll.repeat(9), [0; 100]);
+        let write = || u8::call(Transfer::WriteNoRead(&[0]));
+        let outcome = run_published(write(), START, 50, &script, &mut log);
         assert_eq!((outcome.number(), outcome.accesses), (Some(4), 27));
+        let outcome = run(write(), START, 50, &script, &mut log);
+        assert_eq!((outcome.number(), outcome.accesses), (Some(0), 8));
     }
+    // Nor does it refuse an exponent.
+    let (script, mut log) = ([0, 0xFFFF, 0].repeat(2), [0; 100]);
+    for run in [run, run_published] {
+        let call = u8::call(Transfer::WriteNoRead(&[0]));
+        let outcome = run(call, START, 50, &script, &mut log);
+        assert_eq!((outcome.number(), outcome.accesses), (Some(0), 8));
+    }
+    let outcome = run_published(Call::FifoStatus, START, 50, &[0x0304, 0], &mut log);
+    let Ok(Value::FifoStatus(fifo)) = outcome.result else {
+        panic!("{outcome:?}");
+    };
+    assert_eq!((fifo.rxcap, fifo.txcap), (3, 4));
 }
 
 #[test]

@@ -1,4 +1,5 @@
-//! The original itself, over script and log, and the port against it.
+//! The original over script and log, with the FIFOs' depths and as published, and the port
+//! against it.
 //!
 //! Where the source is missing all these tests are ignored.
 
@@ -7,6 +8,7 @@ mod buslog;
 mod calls;
 #[path = "../common/mod.rs"]
 mod common;
+mod depth;
 mod differences;
 mod port;
 mod transfers;

@@ -24,12 +24,12 @@ fn the_example() {
 #[cfg_attr(not(original), ignore = "the original is missing")]
 fn one_way_and_in_place() {
     let write = Transfer::WriteNoRead(&[0x1122, 0x3344, 0x5566]);
-    let ready = [0, 0x404, 3].repeat(3);
+    let ready = [0, 0x404, 15].repeat(3);
     let (outcome, accesses) = listed(u16::call(write), Driver::default(), 50, &ready);
     let expected = "\
-        R 14 00000000, R 04 00000404, R 5C 00000003, W 60 0008002F, \
-        R 14 00000000, R 04 00000404, R 5C 00000003, W 64 11223344, \
-        R 14 00000000, R 04 00000404, R 5C 00000003, W 64 00005566";
+        R 14 00000000, R 04 00000404, R 5C 0000000F, W 60 0008002F, \
+        R 14 00000000, R 04 00000404, R 5C 0000000F, W 64 11223344, \
+        R 14 00000000, R 04 00000404, R 5C 0000000F, W 64 00005566";
     assert_eq!(accesses.join(", "), expected);
     assert_eq!(outcome.number(), Some(0));
 
@@ -47,13 +47,13 @@ fn one_way_and_in_place() {
 
     let mut data = [0xA5];
     let in_place = Transfer::Exchange(&mut data);
-    let script = [0, 1, 0, 0, 1, 1, 0, 0, 0x1_0000, 0x5A, 0, 1, 0];
+    let script = [0, 1, 0, 0, 1, 2, 0, 0, 0x1_0000, 0x5A, 0, 1, 1];
     let (outcome, accesses) = listed(u8::call(in_place), Driver::default(), 50, &script);
     let expected = "\
         R 14 00000000, R 04 00000001, R 5C 00000000, W 60 00000007, \
-        R 14 00000000, R 04 00000001, R 5C 00000001, \
+        R 14 00000000, R 04 00000001, R 5C 00000002, \
         R 14 00000000, R 04 00000000, R 5C 00010000, R 74 0000005A, \
-        R 14 00000000, R 04 00000001, R 5C 00000000, W 64 0000005A";
+        R 14 00000000, R 04 00000001, R 5C 00000001, W 64 0000005A";
     assert_eq!(accesses.join(", "), expected);
     assert_eq!(outcome.number(), Some(0));
     assert_eq!(data, [0x5A]);

@@ -30,8 +30,23 @@ pub(crate) struct Reached {
     pub spot: Spot,
 }
 
+// What PARAM answers first: the second answer. A peripheral answers it ever after; where a script has another answer, the rest of the run
+// goes an access at a time.
+fn first_param(script: &[u32]) -> u32 {
+    if script.len() < 2 {
+        return 0;
+    }
+    script[1]
+}
+
 // Polls for a place for the command, and the command.
-fn wait_for_space(command: u32, budget: usize, script: &[u32], log: &mut [u32]) -> Spaced
+fn wait_for_space(
+    command: u32,
+    budget: usize,
+    script: &[u32],
+    log: &mut [u32],
+    known: u32,
+) -> Spaced
     requires room { ⌜ 2 * budget ≤ length (now log) ⌝ }
     ensures { λ r. ⌜ (r .spot .made ≤ budget) × (r .spot .used ≤ r .spot .made) × (r .spot .received ≡ 0)
         × Waited command (now (script .entry)) (spot 0 0 0) (now (log .entry)) r (now (log .exit)) ⌝ }
@@ -39,7 +54,7 @@ fn wait_for_space(command: u32, budget: usize, script: &[u32], log: &mut [u32]) 
     let mut made: usize = 0;
     let mut used: usize = 0;
     loop {
-        match poll(Direction::Tx, made, used, budget, script, log) {
+        match poll(Direction::Tx, made, used, budget, script, log, known) {
             Shown::Rare => {
                 return Spaced {
                     commanded: false,
@@ -100,7 +115,8 @@ pub(crate) fn ahead(
             spot: nothing,
         };
     }
-    let spaced = wait_for_space(work.command, budget, script, log);
+    let known = first_param(script);
+    let spaced = wait_for_space(work.command, budget, script, log, known);
     let reached = spaced.spot;
     if spaced.commanded {
         let first = Turns {
@@ -117,6 +133,7 @@ pub(crate) fn ahead(
             log,
             sent_words,
             received_words,
+            known,
         );
         let side = last.side;
         let spot = last.spot;

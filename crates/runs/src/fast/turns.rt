@@ -1,5 +1,5 @@
-// Whole turns of a transfer: a poll's three reads and its word. A turn is made only if it certainly fits budget and script and shows no
-// error; all the rest is left to `drive`.
+// Whole turns of a transfer: a poll's three reads and its word. A turn is made only if it certainly fits budget and script, shows no error,
+// and has PARAM as it was known; all the rest is left to `drive`.
 ghost use mathlib.Core.Path.{_≡_};
 ghost use mathlib.Core.Bool.{true};
 ghost use mathlib.Core.List.{List};
@@ -26,7 +26,7 @@ use words::transaction::Direction;
 
 // What a poll shows.
 pub(crate) enum Shown {
-    // An error, or the turn does not certainly fit: nothing was done.
+    // An error, an exponent over 4 or another PARAM, or the turn does not certainly fit: nothing was done.
     Rare,
     Unready,
     Ready,
@@ -61,6 +61,7 @@ fn put_poll(log: &mut [u32], made: usize, status: u32, param: u32, counts: u32)
     put(log, made + 2, Register::FSR.offset(), counts);
 }
 
+// A poll, if PARAM answers what it is known to: what follows from that is then the same for all polls, and no work of a side's loop.
 pub(crate) fn poll(
     side: Direction,
     made: usize,
@@ -68,6 +69,7 @@ pub(crate) fn poll(
     budget: usize,
     script: &[u32],
     log: &mut [u32],
+    known: u32,
 ) -> Shown
     requires within { ⌜ made ≤ budget ⌝ }
     requires room { ⌜ 2 * budget ≤ length (now log) ⌝ }
@@ -85,8 +87,12 @@ pub(crate) fn poll(
     let status = script[used];
     let param = script[used + 1];
     let counts = script[used + 2];
-    match whole(side, status, param, counts) {
+    if param != known {
+        return Shown::Rare;
+    }
+    match whole(side, status, known, counts) {
         Polled::Failed => Shown::Rare,
+        Polled::TooDeep => Shown::Rare,
         Polled::Next(_) => Shown::Rare,
         Polled::Ready => {
             put_poll(log, made, status, param, counts);
@@ -266,6 +272,7 @@ fn send_turn(
     log: &mut [u32],
     sent_words: &[u32],
     received_words: &[u32],
+    known: u32,
 ) -> Turn
     requires within { ⌜ Within budget (length (now «received_words»)) t ⌝ }
     requires room { ⌜ 2 * budget ≤ length (now log) ⌝ }
@@ -274,7 +281,7 @@ fn send_turn(
         (now («received_words» .entry)) (now (log .exit)) (now («received_words» .entry)) r) ⌝ }
 {
     let s = t.spot;
-    match poll(Direction::Tx, s.made, s.used, budget, script, log) {
+    match poll(Direction::Tx, s.made, s.used, budget, script, log, known) {
         Shown::Rare => Turn::Undone,
         Shown::Unready => Turn::Made(wait(t)),
         Shown::Ready => Turn::Made(send_word(t, frame, log, sent_words, received_words)),
@@ -288,6 +295,7 @@ fn receive_turn(
     script: &[u32],
     log: &mut [u32],
     received_words: &mut [u32],
+    known: u32,
 ) -> Turn
     requires within { ⌜ Within budget (length (now «received_words»)) t ⌝ }
     requires room { ⌜ 2 * budget ≤ length (now log) ⌝ }
@@ -297,7 +305,7 @@ fn receive_turn(
         (now (log .exit)) (now («received_words» .exit)) r) ⌝ }
 {
     let s = t.spot;
-    match poll(Direction::Rx, s.made, s.used, budget, script, log) {
+    match poll(Direction::Rx, s.made, s.used, budget, script, log, known) {
         Shown::Rare => Turn::Undone,
         Shown::Unready => Turn::Made(wait(t)),
         Shown::Ready => Turn::Made(receive_word(t, script, log, received_words)),
@@ -314,6 +322,7 @@ fn send_turns(
     log: &mut [u32],
     sent_words: &[u32],
     received_words: &[u32],
+    known: u32,
 ) -> Turns
     requires within { ⌜ Within budget (length (now «received_words»)) first ⌝ }
     requires room { ⌜ 2 * budget ≤ length (now log) ⌝ }
@@ -324,7 +333,16 @@ fn send_turns(
     let mut t = first;
     loop {
         if due(Direction::Tx, t, count) {
-            match send_turn(t, frame, budget, script, log, sent_words, received_words) {
+            match send_turn(
+                t,
+                frame,
+                budget,
+                script,
+                log,
+                sent_words,
+                received_words,
+                known,
+            ) {
                 Turn::Made(u) => {
                     t = u;
                 }
@@ -346,6 +364,7 @@ fn receive_turns(
     script: &[u32],
     log: &mut [u32],
     received_words: &mut [u32],
+    known: u32,
 ) -> Turns
     requires within { ⌜ Within budget (length (now «received_words»)) first ⌝ }
     requires room { ⌜ 2 * budget ≤ length (now log) ⌝ }
@@ -359,7 +378,7 @@ fn receive_turns(
     let mut t = first;
     loop {
         if due(Direction::Rx, t, count) {
-            match receive_turn(t, budget, script, log, received_words) {
+            match receive_turn(t, budget, script, log, received_words, known) {
                 Turn::Made(u) => {
                     t = u;
                 }
@@ -383,6 +402,7 @@ pub(crate) fn take_turns(
     log: &mut [u32],
     sent_words: &[u32],
     received_words: &mut [u32],
+    known: u32,
 ) -> Turns
     requires within { ⌜ Within budget (length (now «received_words»)) first ⌝ }
     requires room { ⌜ 2 * budget ≤ length (now log) ⌝ }
@@ -403,8 +423,9 @@ pub(crate) fn take_turns(
             log,
             sent_words,
             received_words,
+            known,
         );
-        let both = receive_turns(sent, count, budget, script, log, received_words);
+        let both = receive_turns(sent, count, budget, script, log, received_words, known);
         let after = both.spot;
         if after.made <= before.made {
             return both;

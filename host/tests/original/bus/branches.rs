@@ -53,14 +53,14 @@ pub enum Branch {
     OnlyCommandAtAntenna,
     /// A recovery took a command out of the queue.
     CommandCleared,
-    /// The exponent is 0, and not even the command was queued.
-    NeverCommands,
-    /// The exponent is 1: the command was queued, and no word.
+    /// The exponent is 0: the command was queued, and no word.
     NeverSends,
+    /// A transmit queue of that exponent was full.
+    Filled(usize),
 }
 
 impl Branch {
-    pub const ALL: [Self; 28] = [
+    pub const ALL: [Self; 32] = [
         Self::Refused,
         Self::Empty,
         Self::FrameSize,
@@ -87,8 +87,12 @@ impl Branch {
         Self::OnlyCommandAtGate,
         Self::OnlyCommandAtAntenna,
         Self::CommandCleared,
-        Self::NeverCommands,
         Self::NeverSends,
+        Self::Filled(0),
+        Self::Filled(1),
+        Self::Filled(2),
+        Self::Filled(3),
+        Self::Filled(4),
     ];
 }
 
@@ -166,9 +170,9 @@ fn end<W: Element>(bus: &Bus<W>, side: Side, reached: &mut BTreeSet<Branch>) {
     add(Branch::OnlyCommandAtGate, kept && side == Side::Gate);
     add(Branch::OnlyCommandAtAntenna, kept && side == Side::Antenna);
     add(Branch::CommandCleared, happened.commands_cleared > 0);
-    // Polls for the command, or for a word behind it, were unready; no error cut them short.
+    add(Branch::Filled(board.exponent), happened.filled);
+    // Polls for a word behind the command were unready; no error cut them short.
     let waits = transfer.is_none() && !end.flagged() && happened.commands_cleared == 0;
-    let waited = |accesses| waits && end.accesses() > accesses;
-    add(Branch::NeverCommands, board.exponent == 0 && waited(3));
-    add(Branch::NeverSends, board.exponent == 1 && waited(7));
+    let waited = waits && end.accesses() > 7 && happened.commands == 1 && happened.sent == 0;
+    add(Branch::NeverSends, board.exponent == 0 && waited);
 }

@@ -47,7 +47,9 @@ fn total<W: Element>(random: &mut Random) -> usize {
         0 => longest,
         1 => random.below(longest),
         2..6 => longest + 1 + random.below(3),
-        6..56 => random.below(41),
+        // Enough to fill a queue of 16 places.
+        6..12 => (16 + random.below(8)) * Transfer::<W>::PER_WORD,
+        12..56 => random.below(41),
         _ => random.below(4 * Transfer::<W>::PER_WORD + 1),
     }
 }
@@ -64,8 +66,7 @@ fn board<W: Element>(random: &mut Random, lsb: bool, total: usize) -> Board<W> {
     let exponent = match random.below(64) {
         0 => [5, 6, 16, usize::MAX][random.below(4)],
         1 => 0,
-        2 => 1,
-        other => 2 + other % 3,
+        other => 1 + other % 4,
     };
     let shorter = match random.flag() {
         true => total,
@@ -93,6 +94,8 @@ pub struct Chooser {
     random_events: usize,
     /// How often each event is chosen at random.
     weights: [usize; 9],
+    /// How often, in 256, a clock comes where it loses and makes up no word.
+    clocks: u32,
     /// Events still to come after both ends are finished.
     after: usize,
     /// Events that may still come.
@@ -128,6 +131,8 @@ impl Chooser {
             manner,
             random_events,
             weights,
+            // Late clocks fill the queues.
+            clocks: [160, 160, 160, 160, 160, 160, 160, 6][random.below(8)],
             after: random.below(4),
             left,
         }
@@ -157,7 +162,7 @@ impl Chooser {
         if self.manner == Manner::Disturbed && random.chance(3) {
             return Some(Event::ALL[random.below(9)]);
         }
-        if gate.ready() && antenna.ready() && random.chance(160) {
+        if gate.ready() && antenna.ready() && random.chance(self.clocks) {
             return Some(Event::Clock);
         }
         let side = match (gate.finished(), antenna.finished(), random.flag()) {

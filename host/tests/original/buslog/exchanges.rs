@@ -34,8 +34,8 @@ fn inputs<W: Element + UpperHex>(test: &'static str) {
     }
     branches.demand(&test, |branch| match branch {
         Branch::Stopped(..) => 0,
-        // Rare: of recoveries only.
-        Branch::Waited(_) => 1,
+        // Rare: of recoveries only, and of one poll and field, or of one count.
+        Branch::Waited(_) | Branch::TooDeep(..) | Branch::Full(_) | Branch::LastPlace(_) => 1,
         _ => 5,
     });
     spellings.demand(&test, |_| 20);

@@ -1,10 +1,11 @@
-//! Transfers at chosen places: stops, lengths, the receiving side ahead, frame sizes
-//! and limits.
+//! Transfers at chosen places: stops, lengths, the receiving side ahead, frame sizes,
+//! limits and exponents.
 
-use super::script::{any_word, transfer_script};
+use super::script::{Sizes, and_sizes, any_word, depth_polls, transfer_script};
 use super::{DRIVER, Element, REFUSED, judged_transfer, stops};
 use crate::common::branches::Branch;
 use crate::common::cases::{Cases, Tally};
+use crate::common::registers::{ERRORS, RX_ERROR, TX_ERROR};
 use crate::common::run::{Left, Limits, MAX_BUDGET};
 use crate::common::transfer::{Kind, Sides, Transfer};
 use crate::common::walk;
@@ -56,9 +57,11 @@ impl Directed<'_> {
     /// A run whose command finds space at once, and that ends with 0 after all polls.
     fn ends<W: Element>(&mut self, transfer: &Transfer<W>, signs: &str) {
         let command = if transfer.total() == 0 { "" } else { "s" };
-        let script = transfer_script(&format!("{command}{signs}"));
-        let left = self.run(transfer, &Limits::new(2 * script.len(), &script));
-        assert_eq!((left.number, left.answers), (0, script.len()));
+        for sizes in Sizes::ALL {
+            let script = transfer_script(&format!("{command}{signs}"), sizes);
+            let left = self.run(transfer, &Limits::new(2 * script.len(), &script));
+            assert_eq!((left.number, left.answers), (0, script.len()));
+        }
     }
 }
 
@@ -109,8 +112,10 @@ fn stops_everywhere<W: Element>(directed: &mut Directed) {
         for lengths in lengths {
             let transfer = directed.transfer::<W>(bit_order, *lengths);
             for (signs, end) in three_words(directed.kind) {
-                let run = |limits: &Limits| directed.run(&transfer, limits);
-                stops::before_every_access(&transfer_script(signs), *end, run);
+                for sizes in Sizes::ALL {
+                    let run = |limits: &Limits| directed.run(&transfer, limits);
+                    stops::before_every_access(&transfer_script(signs, sizes), *end, run);
+                }
             }
         }
     }
@@ -178,7 +183,8 @@ fn frame_sizes<W: Element>(directed: &mut Directed) {
     ];
     for lengths in refused.into_iter().flat_map(lengths) {
         let transfer = directed.transfer::<W>(BitOrder::Msb, lengths);
-        let left = directed.run(&transfer, &Limits::new(20, &transfer_script("ssw")));
+        let script = transfer_script("ssw", Sizes::Any);
+        let left = directed.run(&transfer, &Limits::new(20, &script));
         assert_eq!(left.number, 1);
     }
 }
@@ -192,9 +198,11 @@ fn limits<W: Element>(directed: &mut Directed) {
     let transfer = directed.transfer::<W>(BitOrder::Msb, (length, length));
     for (unready, number) in [(unready, 0), (unready + 1, 4)] {
         let signs = "f".repeat(unready) + "s" + &bursts(&transfer, words);
-        let limits = Limits::new(MAX_BUDGET, &transfer_script(&signs));
-        let left = directed.run(&transfer, &limits);
-        assert_eq!((left.number, left.accesses), (number, MAX_BUDGET));
+        for sizes in Sizes::ALL {
+            let limits = Limits::new(MAX_BUDGET, &transfer_script(&signs, sizes));
+            let left = directed.run(&transfer, &limits);
+            assert_eq!((left.number, left.accesses), (number, MAX_BUDGET));
+        }
     }
     // Number 5 comes before the empty test and number 1.
     for length in [0, length, Transfer::<W>::LONGEST + 1] {
@@ -203,11 +211,77 @@ fn limits<W: Element>(directed: &mut Directed) {
             let limits = Limits {
                 budget,
                 log_len,
-                script: transfer_script("ssw"),
+                script: transfer_script("ssw", Sizes::Any),
             };
             assert_eq!(directed.run(&transfer, &limits).number, 5);
         }
     }
+}
+
+/// Exponents over 4 in every poll of a transfer of three words, with stops before every
+/// access: 7 right after PARAM, whatever the other direction's flag is; but the poll's
+/// own flag comes first. After received words the buffer has them, and there is no
+/// recovery.
+fn exponents<W: Element>(directed: &mut Directed) {
+    const OVER: [[u32; 2]; 6] = [[5, 4], [4, 5], [255, 0], [0, 255], [5, 5], [8, 64]];
+    let polls: &[(&str, u32)] = match directed.kind {
+        Kind::ExchangeSeparate | Kind::Exchange => &[
+            ("", TX_ERROR),
+            ("ff", TX_ERROR),
+            ("s", TX_ERROR),
+            ("s ss", TX_ERROR),
+            ("s f", RX_ERROR),
+            ("s sf w", RX_ERROR),
+            ("s sf we", TX_ERROR),
+            ("s sss ww", RX_ERROR),
+            ("s f www", TX_ERROR),
+        ],
+        Kind::WriteNoRead => &[
+            ("", TX_ERROR),
+            ("f", TX_ERROR),
+            ("s", TX_ERROR),
+            ("s sfs", TX_ERROR),
+        ],
+        Kind::ReadNoWrite => &[
+            ("", TX_ERROR),
+            ("f", TX_ERROR),
+            ("s", RX_ERROR),
+            ("s wew", RX_ERROR),
+        ],
+    };
+    let length = 3 * Transfer::<W>::PER_WORD;
+    let transfer = directed.transfer::<W>(BitOrder::Msb, (length, length));
+    for ((signs, own), sizes) in polls
+        .iter()
+        .flat_map(|poll| Sizes::ALL.map(|sizes| (poll, sizes)))
+    {
+        let before = transfer_script(signs, sizes);
+        for exponents in OVER {
+            for errors in [0, ERRORS & !own] {
+                let script = and_sizes(&before, errors, exponents);
+                let run = |limits: &Limits| directed.run(&transfer, limits);
+                stops::before_every_access(&script, 7, run);
+            }
+            for errors in [*own, ERRORS] {
+                let script = and_sizes(&before, errors, exponents);
+                let left = directed.run(&transfer, &Limits::new(MAX_BUDGET, &script));
+                // Before the command the error is the answer; later a recovery begins.
+                let early = !signs.contains('s');
+                assert_eq!(left.number, if early { 3 } else { 4 });
+                let answers = script.len() - usize::from(early);
+                assert_eq!(left.answers, answers);
+            }
+        }
+    }
+    // Every depth, full and with one place left: the command goes out at the second poll.
+    for exponent in 0..=4 {
+        let left = directed.run(&transfer, &Limits::new(MAX_BUDGET, &depth_polls(exponent)));
+        assert_eq!((left.number, left.accesses), (4, 7));
+    }
+    // Exponents of 4 go on.
+    let script = and_sizes(&transfer_script("s", Sizes::Any), 0, [4, 4]);
+    let left = directed.run(&transfer, &Limits::new(MAX_BUDGET, &script));
+    assert_eq!((left.number, left.answers), (4, script.len()));
 }
 
 /// All of the above, at one width. Every branch must be reached.
@@ -223,6 +297,7 @@ fn transfers<W: Element>(test: &'static str) {
         lengths::<W>(&mut directed);
         frame_sizes::<W>(&mut directed);
         limits::<W>(&mut directed);
+        exponents::<W>(&mut directed);
         if kind.sides() == 2 {
             receiving_ahead::<W>(&mut directed);
         }

@@ -12,7 +12,7 @@ use crate::common::Random;
 use crate::common::run::{Left, Limits, MAX_BUDGET, found};
 use crate::common::transfer::{self, Kind, Transfer};
 use lpspi_host::{BitOrder, CcrCache, Lpspi, MODE_1, Mode, Pcs};
-use original::{Call, run};
+use original::{Call, Outcome, run, too_deep, until_too_deep};
 
 /// An element of buffers of both sides.
 trait Element: transfer::Element + original::Element {}
@@ -94,16 +94,20 @@ fn refused<W>(number: u32, driver: Lpspi, limits: &Limits) -> Left<W> {
     }
 }
 
-/// A run without a value, as the scope document has it: the original's, once past
-/// number 5. The buffer is the caller's to add.
-fn judged<W>(call: Call, driver: Lpspi, limits: &Limits) -> Left<W> {
+/// A run without a value, as the scope documents have it: the original's, once past
+/// number 5, but with 7 right after an exponent over 4. `run` makes it with a budget,
+/// and with a log as found. The buffer is the caller's to add.
+fn judged<W>(
+    driver: Lpspi,
+    limits: &Limits,
+    run: impl FnMut(usize) -> (Outcome, Vec<u32>),
+) -> Left<W> {
     if limits.refused() {
         return refused(5, driver, limits);
     }
-    let (given, mut log) = (original_driver(driver), found(limits.log_len));
-    let outcome = run(call, given, limits.budget, &limits.script, &mut log);
+    let (number, outcome, log) = until_too_deep(limits.budget, too_deep, run);
     Left {
-        number: outcome.number().expect("the original did not panic"),
+        number: number.expect("the original did not panic"),
         driver: driver_number(outcome.driver),
         accesses: outcome.accesses,
         answers: outcome.answers,
@@ -113,19 +117,32 @@ fn judged<W>(call: Call, driver: Lpspi, limits: &Limits) -> Left<W> {
     }
 }
 
+/// One run of the original over a log as found.
+fn original_run(call: Call, driver: Lpspi, budget: usize, limits: &Limits) -> (Outcome, Vec<u32>) {
+    let mut log = found(limits.log_len);
+    let driver = original_driver(driver);
+    let outcome = run(call, driver, budget, &limits.script, &mut log);
+    (outcome, log)
+}
+
 fn judged_transfer<W: Element>(transfer: &Transfer<W>, limits: &Limits) -> Left<W> {
-    let (mut buffer, write) = (transfer.read.clone(), &transfer.write[..]);
-    let read = &mut buffer[..];
-    let call = W::call(match transfer.kind {
-        Kind::ExchangeSeparate => original::Transfer::ExchangeSeparate { read, write },
-        Kind::Exchange => original::Transfer::Exchange(read),
-        Kind::WriteNoRead => original::Transfer::WriteNoRead(write),
-        Kind::ReadNoWrite => original::Transfer::ReadNoWrite(read),
+    let mut buffer = transfer.read.clone();
+    let left = judged(transfer.driver, limits, |budget| {
+        buffer.copy_from_slice(&transfer.read);
+        let (read, write) = (&mut buffer[..], &transfer.write[..]);
+        let call = W::call(match transfer.kind {
+            Kind::ExchangeSeparate => original::Transfer::ExchangeSeparate { read, write },
+            Kind::Exchange => original::Transfer::Exchange(read),
+            Kind::WriteNoRead => original::Transfer::WriteNoRead(write),
+            Kind::ReadNoWrite => original::Transfer::ReadNoWrite(read),
+        });
+        original_run(call, transfer.driver, budget, limits)
     });
-    let left = judged(call, transfer.driver, limits);
     Left { buffer, ..left }
 }
 
 fn judged_flush(driver: Lpspi, limits: &Limits) -> Left<u8> {
-    judged(Call::Flush, driver, limits)
+    judged(driver, limits, |budget| {
+        original_run(Call::Flush, driver, budget, limits)
+    })
 }

@@ -4,13 +4,14 @@
 //! Behind the line `MARK` of `crates/lpspi/stdin` each line has the inputs of a run, as
 //! docs/CALLS.md has them, and `crates/lpspi/stdout` what the original leaves. Both are
 //! made here, from a fixed seed and by the original alone: the port has no part in
-//! them. (Whether a FIFO is full is told by the original's counts, as its `is_full` does.) The test holds the files against the original; with `LPSPI_SAMPLE=write` it
-//! writes them.
+//! them, and of the numbers only those that the original gives by itself. (Whether a
+//! FIFO is full is told by the original's counts, as its `is_full` does.) The test holds
+//! the files against the original; with `LPSPI_SAMPLE=write` it writes them.
 
 use super::calls::{CALLS, Case};
 use super::{Element, judged_flush, judged_transfer, random_driver};
 use crate::common::Random;
-use crate::common::random_runs::Mood;
+use crate::common::random_runs::{Mood, other_answers};
 use crate::common::registers::ERRORS;
 use crate::common::run::{Left, Limits, listing};
 use crate::common::transfer::{Kind, Transfer};
@@ -26,11 +27,14 @@ const TRANSFERS: usize = 18;
 const FLUSHES: usize = 30;
 const CALL_RUNS: usize = 8;
 
+/// Greater numbers are those that the scope documents add.
+const MOST_ORIGINAL: u32 = 4;
+
 /// More accesses than a run of the sample makes by itself.
 const BUDGET: usize = 500;
 
 /// Behind this line of both files stand the runs, up to the end.
-const MARK: &str = "# runs of the original, lpspi.rs itself";
+const MARK: &str = "# runs of the original: lpspi.rs with the FIFOs' depths";
 
 /// A run as the program takes it, and what the original leaves, as the program prints
 /// it.
@@ -100,6 +104,7 @@ fn random_limits<W>(
     // An error, if SR is read there.
     script[random.below(24)] |= random.word() & ERRORS;
     let ended = original(&Limits::new(BUDGET, &script));
+    other_answers(random, &mut script, &ended);
     let (mut budget, mut answers) = (ended.accesses + random.below(2), ended.answers);
     match random.below(6) {
         0 => budget = random.below(ended.accesses + 1),
@@ -107,6 +112,21 @@ fn random_limits<W>(
         _ => {}
     }
     Limits::new(budget, &script[..answers])
+}
+
+/// A run that ends with a number of the original's.
+fn by_itself<W>(
+    random: &mut Random,
+    answers: usize,
+    original: impl Fn(&Limits) -> Left<W>,
+) -> (Limits, Left<W>) {
+    loop {
+        let limits = random_limits(random, answers, &original);
+        let left = original(&limits);
+        if left.number <= MOST_ORIGINAL {
+            return (limits, left);
+        }
+    }
 }
 
 /// A transfer of up to three words; the first of a kind is too long.
@@ -119,8 +139,7 @@ fn transfer<W: Element + UpperHex>(random: &mut Random, kind: Kind, first: bool)
     };
     let driver = random_driver(random);
     let transfer = Transfer::<W>::new(kind, driver, lengths, || random.word());
-    let limits = random_limits(random, 60, |limits| judged_transfer(&transfer, limits));
-    let left = judged_transfer(&transfer, &limits);
+    let (limits, left) = by_itself(random, 60, |limits| judged_transfer(&transfer, limits));
     let name = match kind {
         Kind::ExchangeSeparate => "exchange_separate",
         Kind::Exchange => "exchange",
@@ -134,13 +153,11 @@ fn transfer<W: Element + UpperHex>(random: &mut Random, kind: Kind, first: bool)
 
 fn flush(random: &mut Random) -> Lines {
     let driver = random_driver(random);
-    let limits = random_limits(random, 24, |limits| judged_flush(driver, limits));
-    let left = judged_flush(driver, &limits);
+    let (limits, left) = by_itself(random, 24, |limits| judged_flush(driver, limits));
     lines::<u8>("flush", driver, (&[], &[]), &limits, &left, "")
 }
 
-/// Some runs of every other call, of those that the original answers by itself: the
-/// numbers that the scope document adds are left out.
+/// Some runs of every other call.
 fn calls(random: &mut Random) -> Vec<Lines> {
     let mut wanted = [CALL_RUNS; CALLS.len()];
     let mut runs = vec![];
@@ -148,7 +165,7 @@ fn calls(random: &mut Random) -> Vec<Lines> {
         let case = Case::random(random);
         let wanted = &mut wanted[case.place()];
         let left = case.judged();
-        if *wanted > 0 && left.number <= 4 {
+        if *wanted > 0 && left.number <= MOST_ORIGINAL {
             *wanted -= 1;
             let (call, value) = (case.text(), case.value_text(left.value));
             let nothing = (&[][..], &[][..]);

@@ -1,6 +1,6 @@
 -- `fifo_status` meets its contract: its value comes with Ok.
 -- Assumes nothing.
-use mathlib.Core.Path.{ap₂, _∙_}
+use mathlib.Core.Path.{refl, ap₂, _∙_}
 use Rattle.calls.specs.Values.{fifoStatus, fifoIn, noFifo}
 use Rattle.calls.proofs.EntryLaws.{has-value, has-none}
 use borrow.Author.Needs.{needs}
@@ -16,8 +16,8 @@ returns c =
 
 returns-2 : tie.Need-returns-2
 returns-2 c =
-    has-none (c .before .before .before .before .before .before .run-call .ensures) fifoIn noFifo (c .before .result2 .ensures)
-    (c .before .before .before .is-ok .ensures) (c .before .before .if1 .left) (c .fifo2 .ensures)
+    has-none (c .before .before .before .before .before .run-call .ensures) fifoIn noFifo (c .result2 .ensures)
+    (c .before .before .is-ok .ensures) (c .before .if1 .left) refl
 
 pub fifo-status-spec : {M : Type 1} → statement M
 fifo-status-spec =
@@ -31,7 +31,6 @@ fifo-status-spec =
     (λ c κs. search needs)
     (λ c. search needs)
     returns
-    (λ c κs. search needs)
     (λ c κs. search needs)
     (λ c. search needs)
     returns-2)

@@ -8,13 +8,16 @@ returns : tie.Need-returns
 returns c = simp (← c .before .before .poll-answered .ensures, c .enum-told .given .1)
 
 returns-2 : tie.Need-returns-2
-returns-2 c = simp (← c .before .before .before .poll-answered .ensures, c .before .p .given .1)
+returns-2 c = simp (← c .before .before .poll-answered .ensures, c .enum-told2 .given .1)
 
 returns-3 : tie.Need-returns-3
-returns-3 c = simp (← c .before .before .poll-answered .ensures, c .enum-told2 .given .1)
+returns-3 c = simp (← c .before .before .before .poll-answered .ensures, c .before .p .given .1)
 
 returns-4 : tie.Need-returns-4
-returns-4 c = simp (← c .before .before .before .poll-answered .ensures, c .before .enum-told3 .given .1, c .receive-turn .ensures)
+returns-4 c = simp (← c .before .before .poll-answered .ensures, c .enum-told3 .given .1)
+
+returns-5 : tie.Need-returns-5
+returns-5 c = simp (← c .before .before .before .poll-answered .ensures, c .before .enum-told4 .given .1, c .receive-turn .ensures)
 
 pub after-sending-spec : {M : Type 1} → statement M
 after-sending-spec =
@@ -25,8 +28,10 @@ after-sending-spec =
     (λ c. search needs)
     (λ c. search needs)
     (λ c. search needs)
+    (λ c. search needs)
     (λ c κs. search needs)
     returns
     returns-2
     returns-3
-    returns-4)
+    returns-4
+    returns-5)

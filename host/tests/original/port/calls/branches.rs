@@ -2,7 +2,7 @@
 
 use super::{CALLS, Case, Entry, odd};
 use crate::common::branches::{Along, restored, stops};
-use crate::common::registers::PARAM;
+use crate::common::registers::{PARAM, RXCOUNT, TXCOUNT, exponents};
 use crate::common::run::{Cause, Left};
 use std::cmp::Ordering;
 use std::collections::BTreeSet;
@@ -22,6 +22,8 @@ pub enum Branch {
     Word(bool),
     /// `set_watermark` of a direction set a level less than asked for, or not.
     Level { rx: bool, lowered: bool },
+    /// `fifo_status` of a FIFO of that exponent that is full, or not.
+    Depth { rx: bool, exponent: u32, full: bool },
     /// `set_clock_hz`: the half divider is less than 3, within, or over 128.
     HalfDivider(Ordering),
 }
@@ -36,10 +38,13 @@ impl Branch {
     pub fn all() -> Vec<Self> {
         use Branch::*;
         let mut all = vec![Ended("enqueue_transaction", 1), Ended("set_clock_hz", 6)];
-        all.extend([Ended("init", 7), Ended("set_watermark", 7)]);
+        all.extend(["init", "set_watermark", "fifo_status"].map(|name| Ended(name, 7)));
         all.extend([Word(false), Word(true)]);
         for rx in [false, true] {
             all.extend([false, true].map(|lowered| Level { rx, lowered }));
+            for exponent in 0..=4 {
+                all.extend([false, true].map(|full| Depth { rx, exponent, full }));
+            }
         }
         all.extend([Ordering::Less, Ordering::Equal, Ordering::Greater].map(HalfDivider));
         for call in &CALLS {
@@ -68,6 +73,7 @@ impl Branch {
                 let without_word = name == "read_data" && left.value == 0;
                 assert_eq!(along.place, table.len() - usize::from(without_word));
                 reached.extend(Self::of_value(case, left));
+                reached.extend(Self::of_depths(case, left));
                 if restores(case.entry) {
                     reached.insert(Self::Restored(name, restored(left)));
                 }
@@ -83,6 +89,24 @@ impl Branch {
             _ => assert_eq!((left.accesses, left.answers), (0, 0)),
         }
         reached
+    }
+
+    /// The branches of both FIFOs of `fifo_status`, off its log.
+    fn of_depths(case: &Case, left: &Left<u8>) -> Vec<Self> {
+        let made: Vec<_> = left.made().map(|(_, value)| value).collect();
+        let ("fifo_status", [param, fsr]) = (case.entry.name, &made[..]) else {
+            return vec![];
+        };
+        let fifo = |rx, exponent, count| Self::Depth {
+            rx,
+            exponent,
+            full: count >= 1 << exponent,
+        };
+        let [tx, rx] = exponents(*param);
+        vec![
+            fifo(false, tx, fsr & TXCOUNT),
+            fifo(true, rx, (fsr & RXCOUNT) >> 16),
+        ]
     }
 
     /// The branch that the value depends on, or the clock.

@@ -3,6 +3,7 @@
 use super::branches::Branch;
 use super::{CALLS, Case, Entry};
 use crate::common::cases::{Cases, Tally};
+use crate::common::registers::{RXCOUNT, TXCOUNT, param};
 use crate::common::run::{Left, Limits, MAX_BUDGET};
 use crate::port::script::any_word;
 use crate::port::{DRIVER, REFUSED, stops};
@@ -137,6 +138,26 @@ fn exponents(directed: &mut Directed) {
                 directed.stops(entry, (direction, 9), &answers, 0);
             } else {
                 directed.stops(entry, (direction, 9), &answers[..=place], 7);
+            }
+        }
+        // Of `fifo_status` either counts.
+        for other in [0, 4, 5, 255] {
+            for exponents in [[exponent, other], [other, exponent]] {
+                let answers = [0xABCD_0000 | param(exponents), any_word(1)];
+                let fits = exponents.iter().all(|exponent| *exponent <= 4);
+                let (read, end) = if fits { (2, 0) } else { (1, 7) };
+                directed.stops(call("fifo_status"), (0, 0), &answers[..read], end);
+            }
+        }
+    }
+    // Every depth in both directions, with every count around it.
+    for [tx, rx] in (0..5).flat_map(|tx| (0..5).map(move |rx| [tx, rx])) {
+        for less in [1, 0] {
+            for more in [0, 1] {
+                let counts = [tx, rx].map(|exponent| (1 << exponent) - less + more);
+                let fsr = any_word(1) & !(TXCOUNT | RXCOUNT) | counts[1] << 16 | counts[0];
+                let answers = [0xABCD_0000 | param([tx, rx]), fsr];
+                directed.stops(call("fifo_status"), (0, 0), &answers, 0);
             }
         }
     }

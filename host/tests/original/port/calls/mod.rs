@@ -4,14 +4,14 @@ mod branches;
 mod directed;
 mod random;
 
-use super::{driver_number, original_driver, refused};
+use super::{driver_number, original_run, refused};
 use crate::common::branches::{RECOVERY, Table};
 use crate::common::function::Function;
-use crate::common::registers::PARAM;
-use crate::common::run::{Left, Limits, found};
+use crate::common::registers::exponents;
+use crate::common::run::{Left, Limits};
 use lpspi_host::Lpspi;
 use lpspi_host::raw::{Disabled, Get, Reset, Set};
-use original::{Call, ClockConfigs, Direction, Outcome, Value, run};
+use original::{Call, ClockConfigs, Direction, Value, too_deep, until_too_deep};
 use std::fmt::{self, Debug, Formatter};
 
 /// A call.
@@ -236,11 +236,6 @@ impl Case {
         (self.entry.call)(self.a, self.b)
     }
 
-    fn original(&self, budget: usize, log: &mut [u32]) -> Outcome {
-        let driver = original_driver(self.driver);
-        run(self.call(), driver, budget, &self.limits.script, log)
-    }
-
     /// The number that the scope document gives before the first access.
     fn refusal(&self) -> Option<u32> {
         if self.limits.refused() {
@@ -250,12 +245,15 @@ impl Case {
         zero.then_some(6)
     }
 
-    /// The exponent that the scope document checks in PARAM.
-    fn exponent(&self, param: u32) -> Option<u32> {
+    /// Whether the scope documents refuse an answer of PARAM: 01 by one exponent, 02 by
+    /// either.
+    fn refuses(&self, param: u32) -> bool {
+        let [tx, rx] = exponents(param);
         match self.call() {
-            Call::Init | Call::SetWatermark(Direction::Tx, _) => Some(param & 0xFF),
-            Call::SetWatermark(Direction::Rx, _) => Some(param >> 8 & 0xFF),
-            _ => None,
+            Call::Init | Call::SetWatermark(Direction::Tx, _) => tx > 4,
+            Call::SetWatermark(Direction::Rx, _) => rx > 4,
+            Call::FifoStatus => too_deep(param),
+            _ => false,
         }
     }
 
@@ -265,17 +263,11 @@ impl Case {
         if let Some(number) = self.refusal() {
             return refused(number, self.driver, &self.limits);
         }
-        let mut log = found(self.limits.log_len);
-        let mut outcome = self.original(self.limits.budget, &mut log);
-        let mut number = outcome.number();
-        let mut made = log[..2 * outcome.accesses].chunks(2);
-        let over = |param| self.exponent(param).is_some_and(|exponent| exponent > 4);
-        if let Some(place) = made.position(|pair| pair[0] == PARAM && over(pair[1])) {
-            // The original goes on or panics there; up to there both are the same.
-            log = found(self.limits.log_len);
-            outcome = self.original(place + 1, &mut log);
-            number = Some(7);
-        }
+        // Where an answer is refused the original goes on or panics.
+        let refuses = |param| self.refuses(param);
+        let (number, outcome, log) = until_too_deep(self.limits.budget, refuses, |budget| {
+            original_run(self.call(), self.driver, budget, &self.limits)
+        });
         Left {
             number: number.expect("the original did not panic"),
             driver: match self.call() {

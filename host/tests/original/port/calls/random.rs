@@ -4,6 +4,7 @@ use super::branches::Branch;
 use super::{CALLS, Case};
 use crate::common::Random;
 use crate::common::cases::Tally;
+use crate::common::registers::{RXCOUNT, RXFIFO, TXCOUNT, TXFIFO, param};
 use crate::common::run::{Limits, MAX_BUDGET};
 use crate::port::random_driver;
 
@@ -20,14 +21,17 @@ impl Case {
             a = 8 + random.below(4_089) as u32;
         }
         let driver = random_driver(random);
-        // MEN mostly 0, so that waits end, and small exponents in most places.
+        // MEN mostly 0, so that waits end, and exponents of 0 or 4 in half of the scripts.
         let any_men = [32, 32, 32, 256][random.below(4)];
         let small = random.flag();
         let answer = |random: &mut Random| {
             let word = random.word() & if random.chance(any_men) { !0 } else { !1 };
             if small { word & 0xFFFF_0404 } else { word }
         };
-        let script = (0..random.below(40)).map(|_| answer(random)).collect();
+        let mut script: Vec<u32> = (0..random.below(40)).map(|_| answer(random)).collect();
+        if entry.name == "fifo_status" && random.chance(224) {
+            fifo_answers(random, &mut script);
+        }
         let budget = match random.below(40) {
             0 => MAX_BUDGET + 1,
             1..5 => random.below(4),
@@ -49,6 +53,20 @@ impl Case {
                 script,
             },
         }
+    }
+}
+
+/// Any depths for PARAM, and for FSR counts at and around them.
+fn fifo_answers(random: &mut Random, script: &mut [u32]) {
+    let exponents = [0; 2].map(|_| random.below(5) as u32);
+    let counts =
+        exponents.map(|exponent| ((1 << exponent) + random.below(3) as u32).saturating_sub(1));
+    let answers = [
+        (TXFIFO | RXFIFO, param(exponents)),
+        (TXCOUNT | RXCOUNT, counts[1] << 16 | counts[0]),
+    ];
+    for (answer, (mask, value)) in script.iter_mut().zip(answers) {
+        *answer = *answer & !mask | value;
     }
 }
 

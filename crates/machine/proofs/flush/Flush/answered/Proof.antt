@@ -7,6 +7,9 @@ use Rattle.machine.proofs.flush.Flush.answered.Tie as tie
 returns : tie.Need-returns
 returns c = simp (c .before .enum-told .given .1, c .after-status .ensures)
 
+returns-2 : tie.Need-returns-2
+returns-2 c = simp (c .before .enum-told2 .given .1, c .after-sizes .ensures)
+
 returns-3 : tie.Need-returns-3
 returns-3 c = simp (c .before .enum-told3 .given .1, c .after-counts .ensures)
 
@@ -20,10 +23,11 @@ answered-spec =
     (λ c. search needs)
     (λ c κs. search needs)
     (λ c. search needs)
+    (λ c κs. search needs)
     (λ c. search needs)
     (λ c κs. search needs)
     (λ c. search needs)
     returns
-    (λ c. search needs)
+    returns-2
     returns-3
     returns-4)

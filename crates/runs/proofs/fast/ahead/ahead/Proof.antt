@@ -27,17 +27,17 @@ returns-2 : tie.Need-returns-2
 returns-2 c =
     let c₆ = c .before .before .before .before .before .before in
     let c₁₃ = c₆ .before .before .before .before .before .before .before in
-    let c₁₇ = c₁₃ .before .before .before .before in
-    let c₂₂ = c₁₇ .before .before .before .before .before in
-    let a = c₂₂ .args in
-    let w = c₁₇ .work in
+    let c₁₈ = c₁₃ .before .before .before .before .before in
+    let c₂₃ = c₁₈ .before .before .before .before .before in
+    let a = c₂₃ .args in
+    let w = c₁₈ .work in
     let s = c₁₃ .wait-for-space in
     let t = c₆ .take-turns in
     let u = t .result in
     let begins = atStart (a .transfer .reset) (w .result .command) (w .result .send) (w .result .receive) in
     let same : begins ≡ a .transfer =
     ap (λ (x : Work). atStart (a .transfer .reset) (x .command) (x .send) (x .receive)) (w .ensures)
-    ∙ sym (at-start (a .transfer) (c₂₂ .pre .1)) in
+    ∙ sym (at-start (a .transfer) (c₂₃ .pre .1)) in
     let first =
     stands-commanded (a .frame) (a .script .now) (a .sent-words .now) (a .received-words .now)
     (a .log .now) (s .last .1 .1 .1 .0)
@@ -61,15 +61,15 @@ returns-2 c =
 returns-3 : tie.Need-returns-3
 returns-3 c =
     let c₄ = c .before .before .before .before in
-    let c₈ = c₄ .before .before .before .before in
-    let c₁₃ = c₈ .before .before .before .before .before in
-    let a = c₁₃ .args in
-    let w = c₈ .work in
+    let c₉ = c₄ .before .before .before .before .before in
+    let c₁₄ = c₉ .before .before .before .before .before in
+    let a = c₁₄ .args in
+    let w = c₉ .work in
     let s = c₄ .wait-for-space in
     let begins = atStart (a .transfer .reset) (w .result .command) (w .result .send) (w .result .receive) in
     let same : begins ≡ a .transfer =
     ap (λ (x : Work). atStart (a .transfer .reset) (x .command) (x .send) (x .receive)) (w .ensures)
-    ∙ sym (at-start (a .transfer) (c₁₃ .pre .1)) in
+    ∙ sym (at-start (a .transfer) (c₁₄ .pre .1)) in
     record {
       made = s .ensures .0;
       used = s .ensures .1;
@@ -86,6 +86,7 @@ ahead-spec =
     (tie.spec
     (λ c κs. search needs)
     returns
+    (λ c κs. search needs)
     (λ c κs. search needs)
     (λ c κs. search needs)
     (λ c κs. search needs)

@@ -19,14 +19,14 @@ use Rattle.runs.proofs.fast.ahead.wait_for_space.Statement.{statement}
 use Rattle.runs.proofs.fast.ahead.wait_for_space.Tie as tie
 
 abbrev Inv-loop : tie.InvT-loop
-Inv-loop command budget script log₀ made₀ used₀ log made used =
+Inv-loop command budget script log₀ known made₀ used₀ log made used =
     (made ≤ budget) × (used ≤ made) × (length log ≡ length log₀)
     × ((f : Frame) (send words : List ℕ) (q : Sequence) (n m : ℕ) (old olds : List ℕ)
     → Stands f script send old olds (atStart q command n m) (atStart q command n m) (spot 0 0 0) log₀ words
     → Stands f script send old olds (atStart q command n m) (atStart q command n m) (spot made used 0) log words)
 
 abbrev μ-loop : tie.MeasureT-loop
-μ-loop command budget script log₀ made₀ used₀ log made used = budget - made
+μ-loop command budget script log₀ known made₀ used₀ log made used = budget - made
 
 loop-holds : tie.Need-loop-holds Inv-loop μ-loop
 loop-holds c = (omega arith, omega arith, refl, λ f send words q n m old olds h. h)
@@ -142,8 +142,8 @@ put-requires c κs =
     (c .before .before .enum-told3 .given .1) (k .ensures) in
     omega (arith, k′ .room, k .kept .1 .1 .1 .1 .1 .0, l .inv .2, c₁₁ .pre)
 
-add-t15 : tie.Need-add-t15 Inv-loop μ-loop
-add-t15 c =
+add-t16 : tie.Need-add-t16 Inv-loop μ-loop
+add-t16 c =
     let c₅ = c .before .before .before .before .before in
     let c₉ = c₅ .before .before .before .before in
     let c₁₄ = c₉ .before .before .before .before .before in
@@ -155,8 +155,8 @@ add-t15 c =
     (c₅ .enum-told3 .given .1) (k .ensures) in
     omega (arith, k′ .room, c₁₄ .fits .budget)
 
-add-t19 : tie.Need-add-t19 Inv-loop μ-loop
-add-t19 c =
+add-t20 : tie.Need-add-t20 Inv-loop μ-loop
+add-t20 c =
     let c₅ = c .before .before .before .before .before in
     let c₉ = c₅ .before .before .before .before in
     let c₁₄ = c₉ .before .before .before .before .before in
@@ -219,7 +219,7 @@ wait-for-space-spec =
     (λ c κs. search needs)
     add-put-2
     put-requires
-    add-t15
-    add-t19
+    add-t16
+    add-t20
     same-length-2
     returns-2)

@@ -20,12 +20,12 @@ some : Frame
 some = record { width = U8; total = 0; inplace = false }
 
 abbrev Inv-loop : tie.InvT-loop
-Inv-loop count budget script log₀ words₀ t₀ log words t =
+Inv-loop count budget script log₀ words₀ known t₀ log words t =
     Within budget (length words₀) t × (length log ≡ length log₀) × (length words ≡ length words₀)
     × ((f : Frame) (send : List ℕ) → Onward f script send count t₀ log₀ words₀ t log words)
 
 abbrev μ-loop : tie.MeasureT-loop
-μ-loop count budget script log₀ words₀ t₀ log words t = budget - t .spot .made
+μ-loop count budget script log₀ words₀ known t₀ log words t = budget - t .spot .made
 
 loop-holds : tie.Need-loop-holds Inv-loop μ-loop
 loop-holds c = (c .before .before .before .pre .0, refl, refl, λ f send m old olds en er h. h)

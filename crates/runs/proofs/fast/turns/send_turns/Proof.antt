@@ -13,11 +13,11 @@ use Rattle.runs.proofs.fast.turns.send_turns.Statement.{statement}
 use Rattle.runs.proofs.fast.turns.send_turns.Tie as tie
 
 abbrev Inv-loop : tie.InvT-loop
-Inv-loop count frame budget script log₀ send words t₀ log t =
+Inv-loop count frame budget script log₀ send words known t₀ log t =
     Within budget (length words) t × (length log ≡ length log₀) × Onward frame script send count t₀ log₀ words t log words
 
 abbrev μ-loop : tie.MeasureT-loop
-μ-loop count frame budget script log₀ send words t₀ log t = budget - t .spot .made
+μ-loop count frame budget script log₀ send words known t₀ log t = budget - t .spot .made
 
 loop-holds : tie.Need-loop-holds Inv-loop μ-loop
 loop-holds c = (c .before .before .before .before .pre .0, refl, λ m old olds en er h. h)

@@ -9,12 +9,12 @@ use Rattle.runs.proofs.fast.turns.take_turns.Statement.{statement}
 use Rattle.runs.proofs.fast.turns.take_turns.Tie as tie
 
 abbrev Inv-loop : tie.InvT-loop
-Inv-loop count frame budget script log₀ send words₀ t₀ log words t =
+Inv-loop count frame budget script log₀ send words₀ known t₀ log words t =
     Within budget (length words₀) t × (length log ≡ length log₀) × (length words ≡ length words₀)
     × Onward frame script send count t₀ log₀ words₀ t log words
 
 abbrev μ-loop : tie.MeasureT-loop
-μ-loop count frame budget script log₀ send words₀ t₀ log words t = budget - t .spot .made
+μ-loop count frame budget script log₀ send words₀ known t₀ log words t = budget - t .spot .made
 
 loop-holds : tie.Need-loop-holds Inv-loop μ-loop
 loop-holds c = (c .before .before .before .before .pre .0, refl, refl, λ m old olds en er h. h)

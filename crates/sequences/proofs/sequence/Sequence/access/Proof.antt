@@ -26,24 +26,28 @@ returns-7 : tie.Need-returns-7
 returns-7 c = simp (c .enum-told5 .given .1)
 
 returns-8 : tie.Need-returns-8
-returns-8 c = simp (c .before .before .before .due3 .given .1, c .before .register .ensures, c .apply .ensures)
+returns-8 c = simp (c .enum-told6 .given .1)
 
 returns-9 : tie.Need-returns-9
-returns-9 c = simp (c .before .before .before .due4 .given .1, c .before .register2 .ensures, c .apply2 .ensures)
+returns-9 c = simp (c .before .before .before .due3 .given .1, c .before .register .ensures, c .apply .ensures)
 
 returns-10 : tie.Need-returns-10
-returns-10 c = simp (c .before .due5 .given .1)
+returns-10 c = simp (c .before .before .before .due4 .given .1, c .before .register2 .ensures, c .apply2 .ensures)
 
 returns-11 : tie.Need-returns-11
-returns-11 c = simp (c .before .before .due6 .given .1, c .kept .ensures)
+returns-11 c = simp (c .before .due5 .given .1)
 
 returns-12 : tie.Need-returns-12
-returns-12 c = simp (c .enum-told6 .given .1)
+returns-12 c = simp (c .before .before .due6 .given .1, c .kept .ensures)
+
+returns-13 : tie.Need-returns-13
+returns-13 c = simp (c .enum-told7 .given .1)
 
 pub access-spec : {M : Type 1} → statement M
 access-spec =
     tie.close
     (tie.spec
+    (λ c. search needs)
     (λ c. search needs)
     (λ c. search needs)
     (λ c. search needs)
@@ -72,4 +76,5 @@ access-spec =
     returns-9
     returns-10
     returns-11
-    returns-12)
+    returns-12
+    returns-13)

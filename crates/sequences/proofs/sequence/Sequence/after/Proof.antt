@@ -23,18 +23,27 @@ returns-3 c =
 returns-4 : tie.Need-returns-4
 returns-4 c =
     simp (
-      c .before .before .before .before .enum-told4 .given .1,
-      c .before .before .before .keep4 .ensures,
-      c .before .before .advance7 .ensures,
-      ← c .before .read .ensures,
-      eq-eqb _ _ (c .if4 .taken),
+      c .before .before .before .enum-told4 .given .1,
+      ← c .before .before .too-deep .ensures,
+      c .before .if4 .taken,
+      c .refuse2 .ensures,
     )
 
 returns-5 : tie.Need-returns-5
-returns-5 c = simp (c .before .before .before .due .given .1, c .before .keep .ensures, c .advance .ensures)
+returns-5 c =
+    simp (
+      c .before .before .before .before .enum-told5 .given .1,
+      c .before .before .before .keep5 .ensures,
+      c .before .before .advance8 .ensures,
+      ← c .before .read .ensures,
+      eq-eqb _ _ (c .if5 .taken),
+    )
 
 returns-6 : tie.Need-returns-6
-returns-6 c =
+returns-6 c = simp (c .before .before .before .due .given .1, c .before .keep .ensures, c .advance .ensures)
+
+returns-7 : tie.Need-returns-7
+returns-7 c =
     simp (
       c .before .before .before .before .before .enum-told .given .1,
       c .before .before .before .ccr-cache .ensures,
@@ -43,11 +52,11 @@ returns-6 c =
       c .advance2 .ensures,
     )
 
-returns-7 : tie.Need-returns-7
-returns-7 c = simp (c .before .before .enum-told2 .given .1, c .before .hold .ensures, c .advance3 .ensures)
-
 returns-8 : tie.Need-returns-8
-returns-8 c =
+returns-8 c = simp (c .before .before .enum-told2 .given .1, c .before .hold .ensures, c .advance3 .ensures)
+
+returns-9 : tie.Need-returns-9
+returns-9 c =
     simp (
       c .before .before .before .enum-told3 .given .1,
       ← c .before .before .enabled .ensures,
@@ -55,8 +64,8 @@ returns-8 c =
       c .advance4 .ensures,
     )
 
-returns-9 : tie.Need-returns-9
-returns-9 c =
+returns-10 : tie.Need-returns-10
+returns-10 c =
     simp (
       c .before .before .before .before .before .before .before .due2 .given .1,
       ← c .before .before .before .before .before .enabled2 .ensures,
@@ -66,8 +75,8 @@ returns-9 c =
       c .advance5 .ensures,
     )
 
-returns-10 : tie.Need-returns-10
-returns-10 c =
+returns-11 : tie.Need-returns-11
+returns-11 c =
     simp (
       c .before .before .before .before .before .due3 .given .1,
       ← c .before .before .before .exponent .ensures,
@@ -76,31 +85,41 @@ returns-10 c =
       c .advance6 .ensures,
     )
 
-returns-11 : tie.Need-returns-11
-returns-11 c =
+returns-12 : tie.Need-returns-12
+returns-12 c =
     simp (
-      c .before .before .before .before .before .enum-told4 .given .1,
-      c .before .before .before .before .keep4 .ensures,
-      c .before .before .before .advance7 .ensures,
-      ← c .before .before .read .ensures,
-      ne-eqb _ _ (c .before .if4 .left),
-      c .advance8 .ensures,
+      c .before .before .before .before .enum-told4 .given .1,
+      ← c .before .before .before .too-deep .ensures,
+      c .before .before .if4 .left,
+      c .before .keep4 .ensures,
+      c .advance7 .ensures,
     )
 
-returns-12 : tie.Need-returns-12
-returns-12 c = simp (c .before .enum-told5 .given .1, c .advance9 .ensures)
-
 returns-13 : tie.Need-returns-13
-returns-13 c = simp (c .before .enum-told6 .given .1, c .advance10 .ensures)
+returns-13 c =
+    simp (
+      c .before .before .before .before .before .enum-told5 .given .1,
+      c .before .before .before .before .keep5 .ensures,
+      c .before .before .before .advance8 .ensures,
+      ← c .before .before .read .ensures,
+      ne-eqb _ _ (c .before .if5 .left),
+      c .advance9 .ensures,
+    )
 
 returns-14 : tie.Need-returns-14
-returns-14 c = simp (c .before .enum-told7 .given .1, c .advance11 .ensures)
+returns-14 c = simp (c .before .enum-told6 .given .1, c .advance10 .ensures)
 
 returns-15 : tie.Need-returns-15
-returns-15 c = simp (c .before .enum-told8 .given .1, c .advance12 .ensures)
+returns-15 c = simp (c .before .enum-told7 .given .1, c .advance11 .ensures)
 
 returns-16 : tie.Need-returns-16
-returns-16 c = simp (c .enum-told9 .given .1)
+returns-16 c = simp (c .before .enum-told8 .given .1, c .advance12 .ensures)
+
+returns-17 : tie.Need-returns-17
+returns-17 c = simp (c .before .enum-told9 .given .1, c .advance13 .ensures)
+
+returns-18 : tie.Need-returns-18
+returns-18 c = simp (c .enum-told10 .given .1)
 
 pub after-spec : {M : Type 1} → statement M
 after-spec =
@@ -136,19 +155,24 @@ after-spec =
     (λ c. search needs)
     (λ c κs. search needs)
     (λ c κs. search needs)
-    (λ c κs. search needs)
     returns-4
     (λ c κs. search needs)
-    (λ c. search needs)
     (λ c κs. search needs)
     (λ c. search needs)
     (λ c κs. search needs)
-    (λ c. search needs)
     (λ c κs. search needs)
-    (λ c. search needs)
     (λ c κs. search needs)
-    (λ c. search needs)
     returns-5
+    (λ c κs. search needs)
+    (λ c. search needs)
+    (λ c κs. search needs)
+    (λ c. search needs)
+    (λ c κs. search needs)
+    (λ c. search needs)
+    (λ c κs. search needs)
+    (λ c. search needs)
+    (λ c κs. search needs)
+    (λ c. search needs)
     returns-6
     returns-7
     returns-8
@@ -159,4 +183,6 @@ after-spec =
     returns-13
     returns-14
     returns-15
-    returns-16)
+    returns-16
+    returns-17
+    returns-18)

@@ -30,10 +30,9 @@ returns-7 c = simp (c .before .before .enum-told5 .given .1, c .before .set9 .en
 returns-8 : tie.Need-returns-8
 returns-8 c =
     simp (
-      c .before .before .before .before .before .enum-told6 .given .1,
-      c .before .before .before .before .kept2 .ensures,
-      c .before .before .before .exponent .ensures,
-      c .before .before .size .ensures .0,
+      c .before .before .before .before .enum-told6 .given .1,
+      c .before .before .before .kept2 .ensures,
+      c .before .before .depth .ensures,
       c .before .set11 .ensures,
       c .set12 .ensures,
     )
@@ -90,7 +89,6 @@ apply-spec =
     (λ c κs. search needs)
     (λ c κs. search needs)
     (λ c. search needs)
-    (λ c κs. search needs)
     (λ c κs. search needs)
     (λ c κs. search needs)
     (λ c κs. search needs)
