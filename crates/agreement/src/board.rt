@@ -2,7 +2,7 @@
 use sequences::driver::Lpspi;
 use words::width::Width;
 
-#[derive(Drop)]
+#[derive(Clone, Copy)]
 pub struct Board {
     pub driver: Lpspi,
     pub width: Width,

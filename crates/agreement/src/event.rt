@@ -1,13 +1,13 @@
 // What happens on the bus.
 use words::transaction::Direction;
 
-#[derive(Drop)]
+#[derive(Clone, Copy)]
 pub enum Side {
     Gate,
     Antenna,
 }
 
-#[derive(Drop)]
+#[derive(Clone, Copy)]
 pub enum Event {
     // The next access of an end, and the busy bit that SR would show.
     Step(Side, bool),

@@ -1,5 +1,5 @@
 // What the registers do on the bus.
-#[derive(Drop)]
+#[derive(Clone, Copy)]
 pub enum Role {
     // PARAM
     Sizes,

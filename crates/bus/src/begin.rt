@@ -14,7 +14,7 @@ use transfers::begin::{Ways, begin};
 use words::width::Width;
 
 // A board that enters a trial, with its total length.
-#[derive(Drop)]
+#[derive(Clone, Copy)]
 pub(crate) struct Entrant {
     pub board: Board,
     pub total: usize,

@@ -4,7 +4,7 @@ ghost use Rattle.bus.specs.Held.{Clockable, ClockMade};
 use crate::station::Station;
 use words::transaction::Direction;
 
-#[derive(Drop)]
+#[derive(Clone, Copy)]
 pub(crate) struct Stations {
     pub gate: Station,
     pub antenna: Station,

@@ -4,7 +4,7 @@ ghost use Rattle.agreement.specs.End.{front, behind};
 ghost use Rattle.bus.specs.View.{queue_of};
 ghost use Rattle.bus.specs.Held.{Sized};
 
-#[derive(Drop)]
+#[derive(Clone, Copy)]
 pub struct Fifo {
     pub(crate) words: [u32; 16],
     pub(crate) count: usize,

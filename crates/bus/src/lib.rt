@@ -11,6 +11,7 @@
 //   Entrant     of a Start its board and its total length             Prepared
 //   EndState    Seen: what can be seen of an end                      stateOf
 //   Outcome     TrialLeft: what a trial leaves                        trialLeft
+#![tactic(auto)]
 mod begin;
 mod clock;
 mod event;

@@ -10,7 +10,7 @@ use agreement::register::Role;
 use manual::{Cr, Field, Fsr, Param, Sr};
 use words::transaction::{Direction, flag};
 
-#[derive(Drop)]
+#[derive(Clone, Copy)]
 pub struct Port {
     // The words of the transmit FIFO.
     pub transmit: Fifo,

@@ -18,7 +18,7 @@ use runs::drive::{Frame, keep, word_in};
 use sequences::access::Access;
 use words::transaction::Direction;
 
-#[derive(Drop)]
+#[derive(Clone, Copy)]
 pub struct Station {
     pub transfer: Transfer,
     pub flush: Flush,
@@ -28,7 +28,7 @@ pub struct Station {
 }
 
 // What an end goes by: its FIFO exponent, and the elements behind its words.
-#[derive(Drop)]
+#[derive(Clone, Copy)]
 pub(crate) struct Link {
     pub exponent: usize,
     pub frame: Frame,

@@ -17,13 +17,13 @@ use words::transaction::Transaction;
 use words::width::Width;
 
 // What an end comes to.
-#[derive(Drop)]
+#[derive(Clone, Copy)]
 pub struct EndState {
     pub station: Station,
     pub registers: [u32; 30],
 }
 
-#[derive(Drop)]
+#[derive(Clone, Copy)]
 pub struct Outcome {
     // 0, or 9 where the boards do not fit.
     pub number: u32,

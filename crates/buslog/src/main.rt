@@ -1,4 +1,5 @@
 // Four lines on standard input: a separate exchange. Prints its listing, or `bad`.
+#![tactic(auto)]
 use libc::{STDIN_FILENO, STDOUT_FILENO};
 use lines::buslog::{INPUT, OUTPUT, buslog};
 

@@ -167,7 +167,7 @@ fn disabled(
 }
 
 // A result, and the call's value as a number.
-#[derive(Drop)]
+#[derive(Clone, Copy)]
 pub(crate) struct Got {
     pub result: RunResult,
     pub value: u64,

@@ -6,26 +6,26 @@ use runs::result::RunResult;
 use sequences::status::Status;
 use words::transaction::Direction;
 
-#[derive(Drop)]
+#[derive(Clone, Copy)]
 pub struct LevelResult {
     pub result: RunResult,
     pub level: u8,
 }
 
-#[derive(Drop)]
+#[derive(Clone, Copy)]
 pub struct StatusResult {
     pub result: RunResult,
     pub status: Status,
 }
 
-#[derive(Drop)]
+#[derive(Clone, Copy)]
 pub struct EnabledResult {
     pub result: RunResult,
     pub enabled: bool,
 }
 
 // The counts of the FIFOs, and their depths. Of zeros, `is_full` is true.
-#[derive(Drop)]
+#[derive(Clone, Copy)]
 pub struct FifoStatus {
     pub rxcount: u16,
     pub txcount: u16,
@@ -44,20 +44,20 @@ impl FifoStatus {
     }
 }
 
-#[derive(Drop)]
+#[derive(Clone, Copy)]
 pub struct FifoResult {
     pub result: RunResult,
     pub fifo: FifoStatus,
 }
 
 // A received word, if there was one.
-#[derive(Drop)]
+#[derive(Clone, Copy)]
 pub enum Data {
     Word(u32),
     Empty,
 }
 
-#[derive(Drop)]
+#[derive(Clone, Copy)]
 pub struct DataResult {
     pub result: RunResult,
     pub data: Data,

@@ -1,1 +1,2 @@
 // The proved examples of document 01: the list is in specs/, its one proof in proofs/.
+#![tactic(auto)]

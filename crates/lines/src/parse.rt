@@ -7,34 +7,34 @@ ghost use Rattle.lines.specs.Parse.{number_answer, order_answer, header_answer, 
 
 use words::order::BitOrder;
 
-#[derive(Drop)]
+#[derive(Clone, Copy)]
 pub(crate) enum Number {
     Value(u32),
     Bad,
 }
 
-#[derive(Drop)]
+#[derive(Clone, Copy)]
 pub(crate) enum Order {
     Named(BitOrder),
     Unknown,
 }
 
 // What the first line says.
-#[derive(Drop)]
+#[derive(Clone, Copy)]
 pub(crate) struct Header {
     pub width: usize,
     pub order: BitOrder,
     pub budget: usize,
 }
 
-#[derive(Drop)]
+#[derive(Clone, Copy)]
 pub(crate) enum First {
     Line(Header),
     Refused,
 }
 
 // What the four lines ask for; the elements stand in buffers.
-#[derive(Drop)]
+#[derive(Clone, Copy)]
 pub(crate) struct Asked {
     pub header: Header,
     pub writes: usize,
@@ -42,7 +42,7 @@ pub(crate) struct Asked {
     pub answers: usize,
 }
 
-#[derive(Drop)]
+#[derive(Clone, Copy)]
 pub(crate) enum Parsed {
     Request(Asked),
     Malformed,

@@ -4,6 +4,7 @@
 //   exchange_separate_u8 read 00 write A5 script 0 404 0 0 404 0 0 404 10000 5A
 //   set_watermark Tx 3 budget 20 script 404 0
 //   from_hz 60000000 4000000
+#![tactic(auto)]
 mod line;
 mod names;
 mod print;

@@ -8,7 +8,7 @@ use sequences::sequence::too_deep;
 use words::transaction::{Direction, LpspiError};
 
 // Where a flush stands: the read that is due, or its end.
-#[derive(Drop)]
+#[derive(Clone, Copy)]
 pub enum Flush {
     Status,
     Sizes,

@@ -8,7 +8,7 @@ use sequences::sequence::{depth, too_deep};
 use words::transaction::Direction;
 
 // The read that is due; with the counts, what PARAM answered before them.
-#[derive(Drop)]
+#[derive(Clone, Copy)]
 pub enum Poll {
     Status,
     Sizes,
@@ -16,7 +16,7 @@ pub enum Poll {
 }
 
 // What a poll comes to by an answer.
-#[derive(Drop)]
+#[derive(Clone, Copy)]
 pub enum Polled {
     Failed,
     // PARAM has an exponent over 4.

@@ -13,7 +13,7 @@ use sequences::sequence::Sequence;
 use words::transaction::{Direction, LpspiError, Transaction};
 
 // Where a transfer stands.
-#[derive(Drop)]
+#[derive(Clone, Copy)]
 pub enum Stage {
     // Waiting for a place for the command.
     Space(Poll),
@@ -29,7 +29,7 @@ pub enum Stage {
 }
 
 // What a transfer works with: TCR's word, the FIFO words to send and to receive, and those done.
-#[derive(Drop)]
+#[derive(Clone, Copy)]
 pub struct Work {
     pub command: u32,
     pub send: usize,
@@ -38,7 +38,7 @@ pub struct Work {
     pub received: usize,
 }
 
-#[derive(Drop)]
+#[derive(Clone, Copy)]
 pub struct Transfer {
     phase: Stage,
     work: Work,

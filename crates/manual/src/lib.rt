@@ -1,10 +1,12 @@
 // The registers of the LPSPI and their fields, by the manual's names.
+#![tactic(auto)]
+
 ghost use Rattle.std.specs.Prelude.{◌≡◌, ◌+◌, ◌<◌, ◌≤◌};
 ghost use Rattle.manual.specs.Bits.{get_bits, set_bits};
 ghost use Rattle.manual.specs.Manual.{param_bits, cr_bits, sr_bits, cfgr1_bits, ccr_bits, fcr_bits, fsr_bits, tcr_bits, rsr_bits};
 ghost use Rattle.manual.specs.Manual.{offset_of, bits_of, read_field, set_field};
 
-#[derive(Drop)]
+#[derive(Clone, Copy)]
 pub enum Register {
     PARAM,
     CR,
@@ -51,7 +53,7 @@ impl Register {
 }
 
 // The fields of PARAM.
-#[derive(Drop)]
+#[derive(Clone, Copy)]
 pub enum Param {
     TXFIFO,
     RXFIFO,
@@ -78,7 +80,7 @@ impl Param {
 }
 
 // The fields of CR.
-#[derive(Drop)]
+#[derive(Clone, Copy)]
 pub enum Cr {
     MEN,
     RST,
@@ -111,7 +113,7 @@ impl Cr {
 }
 
 // The fields of SR.
-#[derive(Drop)]
+#[derive(Clone, Copy)]
 pub enum Sr {
     TDF,
     RDF,
@@ -159,7 +161,7 @@ impl Sr {
 }
 
 // The fields of CFGR1.
-#[derive(Drop)]
+#[derive(Clone, Copy)]
 pub enum Cfgr1 {
     MASTER,
     SAMPLE,
@@ -189,7 +191,7 @@ impl Cfgr1 {
 }
 
 // The fields of CCR.
-#[derive(Drop)]
+#[derive(Clone, Copy)]
 pub enum Ccr {
     SCKDIV,
     DBT,
@@ -222,7 +224,7 @@ impl Ccr {
 }
 
 // The fields of FCR.
-#[derive(Drop)]
+#[derive(Clone, Copy)]
 pub enum Fcr {
     TXWATER,
     RXWATER,
@@ -249,7 +251,7 @@ impl Fcr {
 }
 
 // The fields of FSR.
-#[derive(Drop)]
+#[derive(Clone, Copy)]
 pub enum Fsr {
     TXCOUNT,
     RXCOUNT,
@@ -276,7 +278,7 @@ impl Fsr {
 }
 
 // The fields of TCR.
-#[derive(Drop)]
+#[derive(Clone, Copy)]
 pub enum Tcr {
     FRAMESZ,
     TXMSK,
@@ -327,7 +329,7 @@ impl Tcr {
 }
 
 // The fields of RSR.
-#[derive(Drop)]
+#[derive(Clone, Copy)]
 pub enum Rsr {
     SOF,
     RXEMPTY,
@@ -354,7 +356,7 @@ impl Rsr {
 }
 
 // A field of a register.
-#[derive(Drop)]
+#[derive(Clone, Copy)]
 pub enum Field {
     Param(Param),
     Cr(Cr),

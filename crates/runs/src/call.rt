@@ -12,7 +12,7 @@ use sequences::driver::Lpspi;
 use sequences::sequence::Sequence;
 
 // What a call comes to; the sequence has the registers that it read and the driver value.
-#[derive(Drop)]
+#[derive(Clone, Copy)]
 pub struct Called {
     pub ending: Ending,
     pub accesses: usize,

@@ -13,7 +13,7 @@ use words::buffer::cut_word;
 use words::width::Width;
 
 // The elements behind the words: their width and total count. In place, a word that was received is sent as received.
-#[derive(Drop)]
+#[derive(Clone, Copy)]
 pub struct Frame {
     pub width: Width,
     pub total: usize,
@@ -21,7 +21,7 @@ pub struct Frame {
 }
 
 // How far a run has come: accesses made, answers used, words received.
-#[derive(Drop)]
+#[derive(Clone, Copy)]
 pub struct Spot {
     pub made: usize,
     pub used: usize,
@@ -29,7 +29,7 @@ pub struct Spot {
 }
 
 // What a run comes to.
-#[derive(Drop)]
+#[derive(Clone, Copy)]
 pub struct Driven {
     pub ending: Ending,
     pub spot: Spot,

@@ -20,7 +20,7 @@ use sequences::sequence::too_deep;
 use words::transaction::{Direction, LpspiError};
 
 // What the loop comes to.
-#[derive(Drop)]
+#[derive(Clone, Copy)]
 pub(crate) struct Flushed {
     pub ending: Ending,
     pub accesses: usize,

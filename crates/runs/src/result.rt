@@ -5,7 +5,7 @@ ghost use Rattle.runs.specs.Run.{unmoved};
 use sequences::access::Ending;
 use sequences::driver::Lpspi;
 
-#[derive(Drop)]
+#[derive(Clone, Copy)]
 pub struct RunResult {
     pub ending: Ending,
     // Accesses made: the log's length in pairs.

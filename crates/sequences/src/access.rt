@@ -7,7 +7,7 @@ use manual::Register;
 use words::transaction::{Direction, LpspiError};
 
 // How a run ends. One enum for every kind of run.
-#[derive(Drop)]
+#[derive(Clone, Copy)]
 pub enum Ending {
     Ok,
     Err(LpspiError),
@@ -49,7 +49,7 @@ fn error_number(e: LpspiError) -> u32
 }
 
 // What is due: `Send` writes TDR and `Receive` reads RDR, with the place of the FIFO word in its transfer.
-#[derive(Drop)]
+#[derive(Clone, Copy)]
 pub enum Access {
     Read(Register),
     Write(Register, u32),

@@ -16,7 +16,7 @@ use words::clock::ClockConfigs;
 use words::mode::Pcs;
 use words::transaction::{Direction, Transaction};
 
-#[derive(Drop)]
+#[derive(Clone, Copy)]
 pub enum Call {
     SoftReset,
     RecoverFromError,

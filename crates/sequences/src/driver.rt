@@ -8,13 +8,13 @@ use words::order::BitOrder;
 use words::transaction::Transaction;
 
 // DBT and SCKDIV as they were last set: newer parts do not read them back.
-#[derive(Drop)]
+#[derive(Clone, Copy)]
 pub struct CcrCache {
     pub dbt: u8,
     pub sckdiv: u8,
 }
 
-#[derive(Drop)]
+#[derive(Clone, Copy)]
 pub struct Lpspi {
     order: BitOrder,
     mode: Mode,

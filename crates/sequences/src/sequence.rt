@@ -17,7 +17,7 @@ use words::mode::Pcs;
 use words::transaction::{Direction, flag};
 
 // Named fields of a register, with their new values.
-#[derive(Drop)]
+#[derive(Clone, Copy)]
 pub enum Change {
     // CR: MEN 0, RST 1.
     Reset,
@@ -45,7 +45,7 @@ pub enum Change {
     Polarity(Pcs, PcsPolarity),
 }
 
-#[derive(Drop)]
+#[derive(Clone, Copy)]
 pub enum Move {
     // Read a register and keep it.
     Keep(Register),
@@ -74,7 +74,7 @@ pub enum Move {
 }
 
 // Where a sequence stands, and what it holds.
-#[derive(Drop)]
+#[derive(Clone, Copy)]
 pub struct Sequence {
     place: usize,
     // The register as last looked at.

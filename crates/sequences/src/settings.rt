@@ -3,7 +3,7 @@ ghost use Rattle.std.specs.Prelude.{◌≡◌};
 ghost use Rattle.sequences.specs.Settings.{sample_of, pcspol_of};
 
 // When received data is sampled.
-#[derive(Drop)]
+#[derive(Clone, Copy)]
 pub enum SamplePoint {
     // On the SCK edge.
     Edge,
@@ -12,7 +12,7 @@ pub enum SamplePoint {
 }
 
 // The polarity of a chip select.
-#[derive(Drop)]
+#[derive(Clone, Copy)]
 pub enum PcsPolarity {
     ActiveLow,
     ActiveHigh,

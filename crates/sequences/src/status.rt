@@ -4,7 +4,7 @@ ghost use Rattle.std.specs.Int.Bits.{bit_or};
 ghost use Rattle.manual.specs.declared.Sr.TheVariants.{TDF, RDF, WCF, FCF, TCF, TEF, REF, DMF, MBF};
 ghost use Rattle.sequences.specs.Status.{flagged, status_of, cleared};
 
-#[derive(Drop)]
+#[derive(Clone, Copy)]
 pub struct Status {
     bits: u32,
 }

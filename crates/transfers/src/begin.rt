@@ -11,7 +11,7 @@ use words::transaction::{LpspiError, Transaction, TransactionResult};
 use words::width::Width;
 
 // The sides that a transfer has.
-#[derive(Drop)]
+#[derive(Clone, Copy)]
 pub enum Ways {
     Both,
     Sends,

@@ -1,4 +1,5 @@
 // The transfers: calls of the driver with their buffers, each one run.
+#![tactic(auto)]
 pub mod begin;
 mod entry;
 pub mod exchange;

@@ -12,6 +12,7 @@
 // elements, and a trial at most 65,536 letters and spaces of events. A trial with a line of another form prints `bad` and its number, from
 // 1 on. Lines missing at the end count as empty. An input of more than 262,144 bytes prints `bad`, and none of its trials is run.
 // docs/BUS.md walks through it.
+#![tactic(auto)]
 ghost use Rattle.std.specs.Prelude.{◌<◌, ◌≤◌, max, ◌≡◌, length};
 
 use agreement::board::Board;

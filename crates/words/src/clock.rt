@@ -4,7 +4,7 @@ ghost use Rattle.words.specs.Clock.{half_divider, clock_answer, clocked, clock_w
 
 use manual::{Ccr, Field};
 
-#[derive(Drop)]
+#[derive(Clone, Copy)]
 pub struct ClockConfigs {
     pub sckpcs: u8,
     pub pcssck: u8,
@@ -12,7 +12,7 @@ pub struct ClockConfigs {
     pub sckdiv: u8,
 }
 
-#[derive(Drop)]
+#[derive(Clone, Copy)]
 pub enum ClockResult {
     Ok(ClockConfigs),
     ZeroClock,

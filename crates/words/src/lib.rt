@@ -1,4 +1,5 @@
 // FIFO words, commands and clocks: the lowest layer of the LPSPI driver.
+#![tactic(auto)]
 pub mod buffer;
 pub mod clock;
 pub mod longer;

@@ -2,7 +2,7 @@
 ghost use Rattle.std.specs.Prelude.{◌≡◌, ◌≤◌};
 ghost use Rattle.words.specs.Command.{cpol_of, cpha_of, mode_number, pcs_of};
 
-#[derive(Drop)]
+#[derive(Clone, Copy)]
 pub enum Polarity {
     IdleLow,
     IdleHigh,
@@ -20,7 +20,7 @@ impl Polarity {
     }
 }
 
-#[derive(Drop)]
+#[derive(Clone, Copy)]
 pub enum Phase {
     CaptureOnFirstTransition,
     CaptureOnSecondTransition,
@@ -38,7 +38,7 @@ impl Phase {
     }
 }
 
-#[derive(Drop)]
+#[derive(Clone, Copy)]
 pub struct Mode {
     pub polarity: Polarity,
     pub phase: Phase,
@@ -90,7 +90,7 @@ fn mode_3() -> Mode
 }
 
 // Peripheral chip select.
-#[derive(Drop)]
+#[derive(Clone, Copy)]
 pub enum Pcs {
     Pcs0,
     Pcs1,

@@ -2,7 +2,7 @@
 ghost use Rattle.std.specs.Prelude.{◌≡◌, ◌≤◌};
 ghost use Rattle.words.specs.Command.{lsbf_of};
 
-#[derive(Drop)]
+#[derive(Clone, Copy)]
 pub enum BitOrder {
     Msb,
     Lsb,

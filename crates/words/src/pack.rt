@@ -7,7 +7,7 @@ ghost use Rattle.words.specs.Buffer.{dummy, filled};
 use super::order::BitOrder;
 use super::place::append;
 
-#[derive(Drop)]
+#[derive(Clone, Copy)]
 pub enum PackResult {
     Word(u32),
     TooMany,

@@ -11,7 +11,7 @@ use super::width::Width;
 use manual::{Field, Tcr};
 
 // Data direction.
-#[derive(Drop)]
+#[derive(Clone, Copy)]
 pub enum Direction {
     // Leaving the peripheral.
     Tx,
@@ -19,7 +19,7 @@ pub enum Direction {
     Rx,
 }
 
-#[derive(Drop)]
+#[derive(Clone, Copy)]
 pub enum LpspiError {
     // The frame is shorter or longer than a command can say, or its last word is one bit.
     FrameSize,
@@ -27,13 +27,13 @@ pub enum LpspiError {
     Fifo(Direction),
 }
 
-#[derive(Drop)]
+#[derive(Clone, Copy)]
 pub enum TransactionResult {
     Ok(Transaction),
     Err(LpspiError),
 }
 
-#[derive(Drop)]
+#[derive(Clone, Copy)]
 pub struct Transaction(u32);
 
 // The field of a flag.

@@ -7,7 +7,7 @@ use super::order::BitOrder;
 use super::place::element;
 use super::width::min;
 
-#[derive(Drop)]
+#[derive(Clone, Copy)]
 pub enum UnpackResult {
     Done,
     TooMany,

@@ -4,7 +4,7 @@ ghost use Rattle.words.specs.Width.{width_bits};
 ghost use Rattle.words.specs.Word.{per_word};
 ghost use Rattle.words.specs.Buffer.{dummy, word_count};
 
-#[derive(Drop)]
+#[derive(Clone, Copy)]
 pub enum Width {
     U8,
     U16,

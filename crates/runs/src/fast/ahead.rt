@@ -12,14 +12,14 @@ use manual::Register;
 use words::transaction::Direction;
 
 // The command was sent, or is left to be sent an access at a time.
-#[derive(Drop)]
+#[derive(Clone, Copy)]
 pub(crate) struct Spaced {
     pub commanded: bool,
     pub spot: Spot,
 }
 
 // The transfer that a run has come to, and how far it has come.
-#[derive(Drop)]
+#[derive(Clone, Copy)]
 pub(crate) struct Reached {
     pub transfer: Transfer,
     pub spot: Spot,

@@ -18,7 +18,7 @@ use manual::Register;
 use words::transaction::Direction;
 
 // What a poll shows.
-#[derive(Drop)]
+#[derive(Clone, Copy)]
 pub(crate) enum Shown {
     // An error, an exponent over 4 or another PARAM, or the turn does not certainly fit: nothing was done.
     Rare,
@@ -27,14 +27,14 @@ pub(crate) enum Shown {
 }
 
 // The FIFO words that a transfer sends and receives.
-#[derive(Drop)]
+#[derive(Clone, Copy)]
 pub(crate) struct Count {
     pub send: usize,
     pub receive: usize,
 }
 
 // Whose turn it is, and how far the transfer has come.
-#[derive(Drop)]
+#[derive(Clone, Copy)]
 pub(crate) struct Turns {
     pub side: Direction,
     pub sent: usize,
@@ -42,7 +42,7 @@ pub(crate) struct Turns {
 }
 
 // A turn was made, or is to be made an access at a time.
-#[derive(Drop)]
+#[derive(Clone, Copy)]
 pub(crate) enum Turn {
     Made(Turns),
     Undone,
