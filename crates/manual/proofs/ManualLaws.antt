@@ -31,6 +31,7 @@ use Rattle.manual.proofs.BitsLaws.{get_set, get_set_below, get_set_above}
 either : {P : Type 0} (a b : Bool) → T (a || b) → (T a → P) → (T b → P) → P
 either true b h p q = p tt
 either false true h p q = q tt
+either {P = P} false false h p q = elim h [ ]
 
 -- one of two fields ends where the other begins, or before
 abbrev pub apart : Field → Field → Bool
@@ -176,6 +177,7 @@ apart_swapped f g =
     swapped true true h = tt
     swapped true false h = tt
     swapped false true h = tt
+    swapped false false h = elim h [ ]
 
 -- two fields of a register: the same one, or apart
 module _ (f g : Field) (e : register_of f ≡ register_of g) where
@@ -224,13 +226,18 @@ apart_or_same f g e =
   where
     left : (a b : Bool) → T a → T (a || b)
     left true b h = tt
+    left false b h = elim h [ ]
 
     right : (a b : Bool) → T b → T (a || b)
     right true true h = tt
     right false true h = tt
+    right true false h = elim h [ ]
+    right false false h = elim h [ ]
 
     both : (a b : Bool) → T a → T b → T (a && b)
     both true true h k = tt
+    both true false h k = elim k [ ]
+    both false b h k = elim h [ ]
 
     itself : (f : Field) → T (same_bits f f)
     itself f =
@@ -276,6 +283,7 @@ read_all g (s ∷ ss) w h =
     choose : (a e : Bool) → T (a || e) → {x y z : ℕ} → (T a → x ≡ y) → (T e → x ≡ z) → x ≡ cond a y z
     choose true e h p q = p tt
     choose false true h p q = q tt
+    choose false false h {y = y} {z = z} p q = elim h [ ]
 
     read_same : (f g : Field) (v w : ℕ) → T (same_bits f g) → read_field g (set_field f v w) ≡ v % 2 ^ (bits_of g).width
     read_same f g v w t =
@@ -295,6 +303,8 @@ all_clear g r (s ∷ ss) e h =
   where
     pair : (a b : Bool) → T a → T b → T (a && b)
     pair true true s t = tt
+    pair true false s t = elim t [ ]
+    pair false b s t = elim s [ ]
 
 pub read_register : (g : Field) (r : Register) (ss : List Setting) (w : ℕ) → register_of g ≡ r → AllOf r ss
     → read_field g (set_all ss w) ≡ found g ss w
