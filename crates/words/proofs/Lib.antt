@@ -5,7 +5,3 @@ pub mod CommandLaws
 pub mod ClockLaws
 pub mod ToleranceLaws
 mod ElementLaws
-mod Setter
-mod SetterValues
-mod SetterCall
-mod PlainFn

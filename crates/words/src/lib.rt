@@ -1,5 +1,6 @@
 // FIFO words, commands and clocks: the lowest layer of the LPSPI driver.
 #![tactic(auto)]
+
 pub mod buffer;
 pub mod clock;
 pub mod longer;
