@@ -1,0 +1,18 @@
+-- `whole` meets its contract: each branch is the definition's.
+-- Assumes nothing.
+use Rattle.machine.proofs.poll.whole.Goals as goal
+
+pub returns-in-Failed : goal.returns-in-Failed
+returns-in-Failed c = simp (← c.poll_answered.ensures, c.in-Failed.is)
+
+pub returns-in-TooDeep : goal.returns-in-TooDeep
+returns-in-TooDeep c = simp (← c.poll_answered.ensures, c.in-TooDeep.is)
+
+pub returns-in-Next : goal.returns-in-Next
+returns-in-Next c = simp (← c.poll_answered.ensures, c.in-Next.is, c.from_sizes.ensures)
+
+pub returns-in-Ready : goal.returns-in-Ready
+returns-in-Ready c = simp (← c.poll_answered.ensures, c.in-Ready.is)
+
+pub returns-in-Unready : goal.returns-in-Unready
+returns-in-Unready c = simp (← c.poll_answered.ensures, c.in-Unready.is)

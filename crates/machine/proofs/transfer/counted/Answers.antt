@@ -1,0 +1,10 @@
+-- `counted` meets its contract: each branch is the definition's.
+-- Assumes nothing.
+use borrow.Author.Tests.{le-ltb, lt-ltb}
+use Rattle.machine.proofs.transfer.counted.Goals as goal
+
+pub returns-then-n-limit : goal.returns-then-n-limit
+returns-then-n-limit c = simp (lt-ltb _ _ c.if-n-limit.true)
+
+pub returns-else-n-limit : goal.returns-else-n-limit
+returns-else-n-limit c = simp (le-ltb _ _ c.if-n-limit.false)
