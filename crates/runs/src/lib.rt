@@ -1,5 +1,6 @@
 // Runs over a script: a machine, driven with a budget of accesses from the answers to its reads, with a log.
 #![tactic(auto)]
+
 mod access;
 pub mod call;
 pub mod drive;
