@@ -1,5 +1,6 @@
 // The calls beside the transfers and the flush, each one run with budget, script and log.
 #![tactic(auto)]
+
 pub mod data;
 pub mod disabled;
 mod entry;

@@ -1,5 +1,6 @@
 // The transfers: calls of the driver with their buffers, each one run.
 #![tactic(auto)]
+
 pub mod begin;
 mod entry;
 pub mod exchange;
