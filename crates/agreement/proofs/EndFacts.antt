@@ -201,6 +201,8 @@ module _ (n : ℕ) (accepts : Bool) (j : Job) (other : ℕ → ℕ) where
       by_role control h = refl
       by_role receives h = refl
       by_role holds h = refl
+      by_role sends h = elim h [ ]
+      by_role commands h = elim h [ ]
   quiet_fits (SendWord i) w h = absurd h
   quiet_fits (ReceiveWord i) w h = absurd h
   quiet_fits (Done x) w h = absurd h
@@ -430,6 +432,8 @@ module _ (n : ℕ) (accepts : Bool) (j : Job) (other : ℕ → ℕ) where
         base_reset reset reset (reset || eqb (read_field (Cr RTF) v) 1) (reset || eqb (read_field (Cr RRF) v) 1) w B
     base_write receives v w h B = B
     base_write holds v w h B = B
+    base_write sends v w h B = elim h [ ]
+    base_write commands v w h B = elim h [ ]
 
     -- an access that neither sends nor receives
     base_quiet : (word : ℕ → ℕ) (a : Access) (w : Wire) → Quiet a → Base c τ w → Base c τ (wire_after j.exponent word a w)

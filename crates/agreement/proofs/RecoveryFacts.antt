@@ -90,6 +90,7 @@ move_quiet (Modify c) s h = change_silent c
 move_quiet (Set c) s h = change_silent c
 move_quiet (WriteWord r v) s h = h
 move_quiet (Put r) s h = h
+move_quiet End s h = elim h [ ]
 
 abbrev all_quiet : List Move → Bool
 all_quiet [] = true
