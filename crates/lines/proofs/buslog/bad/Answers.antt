@@ -3,7 +3,6 @@
 use mathlib.Core.List.{[], ◌∷◌}
 use native.Mathlib.Omega.{arith}
 use Rattle.lines.proofs.WrittenLaws.{written_then}
-use borrow.Author.Rules.{rules}
 use Rattle.lines.proofs.buslog.bad.Goals as goal
 
 pub returns : goal.returns

@@ -8,7 +8,6 @@ use Rattle.sequences.specs.Driver.{with_order}
 use Rattle.lines.specs.Buslog.{zeros}
 use Rattle.lines.proofs.TaskLaws.{last_width}
 use Rattle.lines.proofs.PrintedLaws.{as_asked}
-use borrow.Author.Rules.{rules}
 use Rattle.lines.proofs.buslog.run.Goals as goal
 
 pub run_u8-requires : goal.run_u8-requires

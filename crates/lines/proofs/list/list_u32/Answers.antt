@@ -1,81 +1,68 @@
 -- `list_u32` meets its contract: the exchange, then the parts of its listing.
 -- Assumes nothing.
-use Prim.Native.Nat.{◌≤◌}
-use mathlib.Core.Path.{◌≡◌}
-use native.Mathlib.Omega.{arith}
-use lib.ListN.{length}
-use Rattle.transfers.specs.Transfers.{transfer_left, exchange_separate}
-use Rattle.transfers.proofs.CallLaws.{Counts}
+use Rattle.std.proofs.Common.{arith}
 use Rattle.lines.proofs.PrintedLaws.{exchange_counts, listed}
-use borrow.Author.Rules.{rules}
 use Rattle.lines.proofs.list.list_u32.Goals as goal
-
--- AFTER THE EXCHANGE: what it left, its counts, and what holds of what is lent
-module _ (c : tie.After-exchange-separate-u32) where
-  left :
-      let s = c.exchange-separate-u32 in
-      let a = c.before.before.before.before.before.before.before.before.args in
-      transfer_left s.result s.new.1.1.1.1.1.0 s.new.1.0
-      ≡ exchange_separate 32 a.driver a.read.now a.write.now a.budget a.script.now a.log.now
-  left = c.exchange-separate-u32.ensures
-
-  counts :
-      let a = c.before.before.before.before.before.before.before.before.args in
-      Counts a.log.now c.exchange-separate-u32.result
-  counts =
-      let s = c.exchange-separate-u32 in
-      let a = c.before.before.before.before.before.before.before.before.args in
-      exchange_counts 32 a.driver a.read.now a.write.now a.budget a.script.now a.log.now
-      s.result s.new.1.1.1.1.1.0 s.new.1.0 left
-
-  lent :
-      let a = c.before.before.before.before.before.before.before.before.args in
-      (116626 ≤ length a.out.now) × (length a.read.now ≤ 512)
-  lent = c.before.before.before.before.before.before.before.before.requires
 
 pub access_lines-elements-requires : goal.access_lines-elements-requires
 access_lines-elements-requires c =
-    let n = counts x in
-    (omega (arith, n.pairs, c.exchange_separate_u32-r.auto.log), omega (arith, n.accesses, (lent x).0))
+    let a = c.args in
+    let s = c.exchange_separate_u32-r in
+    let n =
+    exchange_counts 32 a.driver a.read.now a.write.now a.budget a.script.now a.log.now s.result s.new.log s.new.read s.ensures in
+    let m = c.requires in
+    (omega (arith, n.pairs, s.auto.log), omega (arith, n.accesses, m.0))
 
 pub words-result-requires : goal.words-result-requires
 words-result-requires c =
-    let n = counts x in
+    let a = c.args in
+    let s = c.exchange_separate_u32-r in
+    let n =
+    exchange_counts 32 a.driver a.read.now a.write.now a.budget a.script.now a.log.now s.result s.new.log s.new.read s.ensures in
+    let m = c.requires in
     let l = c.access_lines-elements in
-    omega (arith, n.accesses, l.ensures.0, l.auto.out, c.exchange_separate_u32-r.auto.read, (lent x).0, (lent x).1)
+    omega (arith, n.accesses, l.ensures.0, l.auto.out, s.auto.read, m.0, m.1)
 
 pub overflow_cast-made : goal.overflow_cast-made
 overflow_cast-made c =
-    let n = counts c₈.before.before.before.before.before.before.before.before in
+    let a = c.args in
+    let s = c.exchange_separate_u32-r in
+    let n =
+    exchange_counts 32 a.driver a.read.now a.write.now a.budget a.script.now a.log.now s.result s.new.log s.new.read s.ensures in
     record { fits = omega (arith, n.accesses) }
 
 pub overflow_cast-used : goal.overflow_cast-used
 overflow_cast-used c =
-    let n = counts c₈.before.before.before.before.before.before.before.before in
+    let a = c.args in
+    let s = c.exchange_separate_u32-r in
+    let n =
+    exchange_counts 32 a.driver a.read.now a.write.now a.budget a.script.now a.log.now s.result s.new.log s.new.read s.ensures in
     record { fits = omega (arith, n.accesses, n.answers) }
 
 pub result_line-requires : goal.result_line-requires
 result_line-requires c =
+    let a = c.args in
     let s = c.exchange_separate_u32-r in
-    let n = counts x in
+    let n =
+    exchange_counts 32 a.driver a.read.now a.write.now a.budget a.script.now a.log.now s.result s.new.log s.new.read s.ensures in
+    let m = c.requires in
     let l = c.access_lines-elements in
     let e = c.words-result in
-    omega (arith, n.accesses, l.ensures.0, e.ensures.0, l.auto.out, e.auto.out, s.auto.read, (lent x).0, (lent x).1)
+    omega (arith, n.accesses, l.ensures.0, e.ensures.0, l.auto.out, e.auto.out, s.auto.read, m.0, m.1)
 
 pub returns : goal.returns
 returns c =
-    let number = c.number in
-    let s = c.exchange_separate_u32-r in
-    let n = counts x in
-    let m = lent x in
     let a = c.args in
+    let s = c.exchange_separate_u32-r in
+    let n =
+    exchange_counts 32 a.driver a.read.now a.write.now a.budget a.script.now a.log.now s.result s.new.log s.new.read s.ensures in
+    let m = c.requires in
     let l = c.access_lines-elements in
     let e = c.words-result in
     let r = c.result_line in
-    listed 32 a.driver a.read.now a.write.now a.budget a.script.now a.log.now
-    s.result s.new.log s.new.read (left x)
-    a.out.now l.new.out e.new.out r.new.out l.result e.result r.result number.result
-    s.auto.log number.ensures l.ensures.0 l.ensures.1 e.ensures.0 e.ensures.1
+    listed 32 a.driver a.read.now a.write.now a.budget a.script.now a.log.now s.result s.new.log s.new.read s.ensures
+    a.out.now l.new.out e.new.out r.new.out l.result e.result r.result c.number.result
+    s.auto.log c.number.ensures l.ensures.0 l.ensures.1 e.ensures.0 e.ensures.1
     (omega
     (arith, n.accesses, l.ensures.0, e.ensures.0, r.ensures.0, l.auto.out, e.auto.out, r.auto.out, s.auto.read, m.0, m.1))
     r.ensures.1 r.ensures.2

@@ -1,12 +1,10 @@
 -- `narrow_u16` meets its contract: the elements before are copied.
 -- Assumes nothing.
-use Prim.Native.Nat.{◌-◌, ◌≤◌}
-use mathlib.Core.Path.{◌≡◌, refl, sym, ◌∙◌}
+use mathlib.Core.Path.{refl, sym, ◌∙◌}
 use native.Mathlib.Omega.{arith}
-use lib.ListN.{length, take, length-set}
+use lib.ListN.{length-set}
 use lib.Seq.{take_all}
 use Rattle.lines.proofs.WrittenLaws.{copied_more}
-use borrow.Author.Rules.{rules}
 use Rattle.lines.proofs.list.narrow_u16.Goals as goal
 
 pub loop-i-init : goal.loop-i-init

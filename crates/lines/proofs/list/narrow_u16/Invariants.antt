@@ -1,12 +1,8 @@
 -- `narrow_u16` meets its contract: the elements before are copied.
 -- Assumes nothing.
 use Prim.Native.Nat.{◌-◌, ◌≤◌}
-use mathlib.Core.Path.{◌≡◌, refl, sym, ◌∙◌}
-use native.Mathlib.Omega.{arith}
-use lib.ListN.{length, take, length-set}
-use lib.Seq.{take_all}
-use Rattle.lines.proofs.WrittenLaws.{copied_more}
-use borrow.Author.Rules.{rules}
+use mathlib.Core.Path.{◌≡◌}
+use lib.ListN.{length, take}
 use Rattle.lines.proofs.list.narrow_u16.Given as goal
 
 abbrev pub invariant-loop-i : goal.invariant-loop-i

@@ -1,7 +1,6 @@
 -- `digit` meets its contract.
 -- Assumes nothing.
 use borrow.Author.Tests.{lt-ltb, le-ltb}
-use borrow.Author.Rules.{rules}
 use Rattle.lines.proofs.parse.digit.Goals as goal
 
 pub returns-then-byte-lt48 : goal.returns-then-byte-lt48

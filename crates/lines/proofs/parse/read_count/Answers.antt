@@ -3,7 +3,6 @@
 use mathlib.Core.Path.{sym, ap, ◌∙◌}
 use borrow.Author.Tests.{le-leb, lt-leb}
 use Rattle.lines.specs.Parse.{number_answer}
-use borrow.Author.Rules.{rules}
 use Rattle.lines.proofs.parse.read_count.Goals as goal
 
 pub returns-then-n-most : goal.returns-then-n-most

@@ -6,7 +6,6 @@ use native.Mathlib.Omega.{arith}
 use borrow.Author.Tests.{le-leb, lt-leb}
 use lib.ListN.{length}
 use Rattle.lines.proofs.TextLaws.{numeral_fits}
-use borrow.Author.Rules.{rules}
 use Rattle.lines.proofs.parse.read_element.Goals as goal
 
 pub returns-then-k-field : goal.returns-then-k-field

@@ -1,6 +1,6 @@
 -- `read_elements` meets its contract. The loop's invariant: those that were read, with the fields that are left, are the line's.
 -- Assumes nothing.
-use Prim.Native.Nat.{ℕ, ◌+◌, ◌-◌, ◌<◌, ◌≤◌}
+use Prim.Native.Nat.{ℕ, ◌+◌, ◌-◌, ◌<◌}
 use mathlib.Core.List.{[], ◌∷◌, ◌++◌}
 use mathlib.Core.Option.{some}
 use mathlib.Core.Path.{◌≡◌, refl, sym, ap, ap₂, ◌∙◌}
@@ -10,12 +10,10 @@ use borrow.Author.Tests.{lt-ltb, le-ltb}
 use lib.ListN.{length, take, drop, set, length-set, length-append}
 use lib.Seq.{take-suc-set, length-take-le}
 use Rattle.lines.specs.Text.{space, split}
-use Rattle.lines.specs.Grammar.{line_elements}
 use Rattle.lines.specs.Parse.{number_answer}
 use Rattle.lines.proofs.TextLaws.{nonzero, before_end}
 use Rattle.lines.proofs.PartLaws.{later, fields}
 use Rattle.lines.proofs.ElementLaws.{togo, togo_start, togo_bad, togo_more, togo_over, togo_end, empty_line}
-use borrow.Author.Rules.{rules}
 use Rattle.lines.proofs.parse.read_elements.Goals as goal
 
 pub returns-then-line-eq0 : goal.returns-then-line-eq0

@@ -2,7 +2,6 @@
 -- Assumes nothing.
 use mathlib.Core.Path.{sym, ap, ◌∙◌}
 use Rattle.lines.specs.Parse.{number_answer, order_answer}
-use borrow.Author.Rules.{rules}
 use Rattle.lines.proofs.parse.read_header.Goals as goal
 
 pub returns-in-Bad : goal.returns-in-Bad

@@ -6,7 +6,6 @@ use Rattle.lines.specs.Text.{space, split}
 use Rattle.lines.specs.Grammar.{asked, asked_with}
 use Rattle.lines.specs.Parse.{header_answer}
 use Rattle.lines.proofs.TaskLaws.{header_small, as_answers}
-use borrow.Author.Rules.{rules}
 use Rattle.lines.proofs.parse.read_lines.Goals as goal
 
 pub read_rest-requires : goal.read_rest-requires

@@ -1,7 +1,6 @@
 -- `read_order` meets its contract.
 -- Assumes nothing.
 use mathlib.Core.Path.{sym, ◌∙◌}
-use borrow.Author.Rules.{rules}
 use Rattle.lines.proofs.parse.read_order.Goals as goal
 
 pub returns-then-same : goal.returns-then-same

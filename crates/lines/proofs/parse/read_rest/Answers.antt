@@ -6,7 +6,6 @@ use Rattle.lines.specs.Grammar.{count}
 use Rattle.lines.specs.Parse.{number_answer}
 use Rattle.lines.proofs.ElementLaws.{as_elements}
 use Rattle.lines.proofs.TaskLaws.{at_most}
-use borrow.Author.Rules.{rules}
 use Rattle.lines.proofs.parse.read_rest.Goals as goal
 
 pub returns-in-Bad : goal.returns-in-Bad

@@ -1,12 +1,8 @@
 -- `same` meets its contract. The loop's invariant: the bytes before are equal.
 -- Assumes nothing.
-use Prim.Native.Nat.{◌-◌, ◌≤◌}
-use mathlib.Core.Path.{◌≡◌, refl, sym, ◌∙◌}
+use mathlib.Core.Path.{refl, sym, ◌∙◌}
 use native.Mathlib.Omega.{arith}
-use lib.ListN.{length, drop}
-use Rattle.lines.specs.Text.{same}
 use Rattle.lines.proofs.TextLaws.{same_shorter, same_longer, same_more, same_differs, same_end}
-use borrow.Author.Rules.{rules}
 use Rattle.lines.proofs.parse.same.Goals as goal
 
 pub returns-then-a-b : goal.returns-then-a-b

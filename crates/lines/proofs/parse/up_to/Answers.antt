@@ -1,12 +1,8 @@
 -- `up_to` meets its contract. The loop's invariant: the bytes before are no separators.
 -- Assumes nothing.
-use Prim.Native.Nat.{◌+◌, ◌-◌, ◌≤◌}
-use mathlib.Core.Path.{◌≡◌, refl}
+use mathlib.Core.Path.{refl}
 use native.Mathlib.Omega.{arith}
-use lib.ListN.{length, drop}
-use Rattle.lines.specs.Text.{up_to}
 use Rattle.lines.proofs.TextLaws.{up_to_more, up_to_here, up_to_end}
-use borrow.Author.Rules.{rules}
 use Rattle.lines.proofs.parse.up_to.Goals as goal
 
 pub loop-n-init : goal.loop-n-init

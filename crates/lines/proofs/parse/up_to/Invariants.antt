@@ -1,12 +1,9 @@
 -- `up_to` meets its contract. The loop's invariant: the bytes before are no separators.
 -- Assumes nothing.
 use Prim.Native.Nat.{◌+◌, ◌-◌, ◌≤◌}
-use mathlib.Core.Path.{◌≡◌, refl}
-use native.Mathlib.Omega.{arith}
+use mathlib.Core.Path.{◌≡◌}
 use lib.ListN.{length, drop}
 use Rattle.lines.specs.Text.{up_to}
-use Rattle.lines.proofs.TextLaws.{up_to_more, up_to_here, up_to_end}
-use borrow.Author.Rules.{rules}
 use Rattle.lines.proofs.parse.up_to.Given as goal
 
 abbrev pub invariant-loop-n : goal.invariant-loop-n

@@ -3,11 +3,8 @@
 use mathlib.Core.Path.{sym, ap, ◌∙◌}
 use Prim.Native.Nat.{ℕ, ◌+◌, ◌%◌}
 use native.Mathlib.Omega.{arith}
-use Rattle.lines.specs.Text.{digits}
-use Rattle.lines.specs.Listing.{kind}
 use Rattle.lines.proofs.WrittenLaws.{written_then, length_digits}
 use Rattle.lines.proofs.ListingLaws.{length_kind}
-use borrow.Author.Rules.{rules}
 use Rattle.lines.proofs.print.access_line.Goals as goal
 
 pub returns : goal.returns

@@ -1,14 +1,10 @@
 -- `access_lines` meets its contract. The loop's invariant: the lines of the accesses before stand there.
 -- Assumes nothing.
-use Prim.Native.Nat.{ℕ, ◌+◌, ◌-◌, ◌*◌, ◌≤◌}
-use mathlib.Core.Path.{◌≡◌, refl, sym, ap, ◌∙◌}
-use native.Mathlib.Omega.{arith}
+use Prim.Native.Nat.{◌+◌, ◌-◌, ◌*◌, ◌≤◌}
+use mathlib.Core.Path.{◌≡◌}
 use lib.ListN.{length, take}
 use Rattle.lines.specs.Text.{written}
 use Rattle.lines.specs.Listing.{access_lines}
-use Rattle.lines.proofs.WrittenLaws.{written_nothing, written_then}
-use Rattle.lines.proofs.ListingLaws.{accesses_more, length_accesses}
-use borrow.Author.Rules.{rules}
 use Rattle.lines.proofs.print.access_lines.Given as goal
 
 abbrev pub invariant-loop-i : goal.invariant-loop-i

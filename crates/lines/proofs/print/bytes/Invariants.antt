@@ -1,16 +1,10 @@
 -- `bytes` meets its contract. The loop's invariant: the lines of the elements before stand there.
 -- Assumes nothing.
-use Prim.Native.Nat.{ℕ, ◌+◌, ◌-◌, ◌*◌, ◌≤◌}
-use mathlib.Core.List.{List}
-use mathlib.Core.Path.{◌≡◌, refl, sym, ap, ◌∙◌}
-use native.Mathlib.Omega.{arith}
-use lib.ListN.{length, take, get_or}
-use lib.Seq.{take_all}
+use Prim.Native.Nat.{◌+◌, ◌-◌, ◌*◌, ◌≤◌}
+use mathlib.Core.Path.{◌≡◌}
+use lib.ListN.{length, take}
 use Rattle.lines.specs.Text.{written}
-use Rattle.lines.specs.Listing.{element_line, element_lines}
-use Rattle.lines.proofs.WrittenLaws.{written_nothing, written_then}
-use Rattle.lines.proofs.ListingLaws.{elements_more, length_elements}
-use borrow.Author.Rules.{rules}
+use Rattle.lines.specs.Listing.{element_lines}
 use Rattle.lines.proofs.print.bytes.Given as goal
 
 abbrev pub invariant-loop-i : goal.invariant-loop-i

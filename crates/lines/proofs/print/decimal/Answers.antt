@@ -5,7 +5,6 @@ use Prim.Native.Nat.{ℕ, ◌+◌}
 use native.Mathlib.Omega.{arith}
 use Rattle.lines.specs.Text.{digits, places, written}
 use Rattle.lines.proofs.WrittenLaws.{length_digits}
-use borrow.Author.Rules.{rules}
 use Rattle.lines.proofs.print.decimal.Goals as goal
 
 pub returns : goal.returns

@@ -7,7 +7,6 @@ use native.Mathlib.Omega.{arith}
 use lib.ListN.{length, length-set}
 use Rattle.lines.specs.Text.{digits, written}
 use Rattle.lines.proofs.WrittenLaws.{written_nothing, digits_stored}
-use borrow.Author.Rules.{rules}
 use Rattle.lines.proofs.print.digits.Goals as goal
 
 pub loop-left-init : goal.loop-left-init

@@ -1,13 +1,9 @@
 -- `digits` meets its contract. The loop's invariant: with the digits that are left, it is all that was to be written.
 -- Assumes nothing.
-use Prim.Native.Nat.{ℕ, ◌+◌, ◌-◌, ◌≤◌}
-use mathlib.Core.Path.{◌≡◌, refl, sym, ap, ◌∙◌}
-use native.Mathlib.Nat.{mod-lt}
-use native.Mathlib.Omega.{arith}
-use lib.ListN.{length, length-set}
+use Prim.Native.Nat.{◌≤◌}
+use mathlib.Core.Path.{◌≡◌}
+use lib.ListN.{length}
 use Rattle.lines.specs.Text.{digits, written}
-use Rattle.lines.proofs.WrittenLaws.{written_nothing, digits_stored}
-use borrow.Author.Rules.{rules}
 use Rattle.lines.proofs.print.digits.Given as goal
 
 abbrev pub invariant-loop-left : goal.invariant-loop-left

@@ -1,7 +1,6 @@
 -- `glyph` meets its contract.
 -- Assumes nothing.
 use borrow.Author.Tests.{lt-ltb, le-ltb}
-use borrow.Author.Rules.{rules}
 use Rattle.lines.proofs.print.glyph.Goals as goal
 
 pub returns-then-digit-lt10 : goal.returns-then-digit-lt10

@@ -6,7 +6,6 @@ use mathlib.Core.Path.{sym, ap, ◌∙◌}
 use native.Mathlib.Omega.{arith}
 use Rattle.lines.specs.Text.{digits, newline}
 use Rattle.lines.proofs.WrittenLaws.{written_then, length_digits}
-use borrow.Author.Rules.{rules}
 use Rattle.lines.proofs.print.half_line.Goals as goal
 
 pub returns : goal.returns

@@ -1,6 +1,6 @@
 -- `halves` meets its contract. The loop's invariant: the lines of the elements before stand there.
 -- Assumes nothing.
-use Prim.Native.Nat.{ℕ, ◌+◌, ◌-◌, ◌*◌, ◌≤◌}
+use Prim.Native.Nat.{ℕ, ◌+◌}
 use mathlib.Core.List.{List}
 use mathlib.Core.Path.{◌≡◌, refl, sym, ap, ◌∙◌}
 use native.Mathlib.Omega.{arith}
@@ -10,7 +10,6 @@ use Rattle.lines.specs.Text.{written}
 use Rattle.lines.specs.Listing.{element_line, element_lines}
 use Rattle.lines.proofs.WrittenLaws.{written_nothing, written_then}
 use Rattle.lines.proofs.ListingLaws.{elements_more, length_elements}
-use borrow.Author.Rules.{rules}
 use Rattle.lines.proofs.print.halves.Goals as goal
 
 pub loop-i-init : goal.loop-i-init

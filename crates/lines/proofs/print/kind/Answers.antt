@@ -3,7 +3,6 @@
 use native.Mathlib.Omega.{arith}
 use borrow.Author.Tests.{lt-ltb, le-ltb}
 use Rattle.lines.proofs.WrittenLaws.{written_then}
-use borrow.Author.Rules.{rules}
 use Rattle.lines.proofs.print.kind.Goals as goal
 
 pub returns-then-register-lt4096 : goal.returns-then-register-lt4096

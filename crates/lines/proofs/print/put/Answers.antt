@@ -2,7 +2,6 @@
 -- Assumes nothing.
 use mathlib.Core.Path.{refl}
 use Rattle.lines.proofs.WrittenLaws.{written_byte}
-use borrow.Author.Rules.{rules}
 use Rattle.lines.proofs.print.put.Goals as goal
 
 pub returns : goal.returns

@@ -1,12 +1,10 @@
 -- `result_line` meets its contract: what is put part by part.
 -- Assumes nothing.
-use Prim.Native.Nat.{◌+◌}
 use mathlib.Core.List.{[], ◌∷◌, ◌++◌}
 use native.Mathlib.Omega.{arith}
 use lib.ListN.{length-append}
 use Rattle.lines.specs.Text.{decimal, newline, space}
 use Rattle.lines.proofs.WrittenLaws.{written_then}
-use borrow.Author.Rules.{rules}
 use Rattle.lines.proofs.print.result_line.Goals as goal
 
 pub returns : goal.returns
