@@ -12,6 +12,7 @@
 //   EndState    Seen: what can be seen of an end                      stateOf
 //   Outcome     TrialLeft: what a trial leaves                        trialLeft
 #![tactic(auto)]
+
 mod begin;
 mod clock;
 mod event;

@@ -3,6 +3,7 @@
 // as found. A run's counts, and the value of a call that has one, always stand where they go; the rest is left as its number says, bits
 // 31..21 of the driver's word always as found. A refused trial (9) has put no ends into `state`, whatever stands there.
 #![tactic(auto)]
+
 pub mod call;
 pub mod clock;
 pub mod command;

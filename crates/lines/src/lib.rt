@@ -1,5 +1,6 @@
 // The lines of `buslog`: four in, the listing out.
 #![tactic(auto)]
+
 pub mod buslog;
 mod list;
 mod parse;

@@ -1,0 +1,17 @@
+-- `lpspi_disabled` meets its contract.
+-- Assumes nothing.
+use mathlib.Core.Path.{ap, ◌∙◌}
+use Rattle.sequences.specs.declared.driver.Lpspi.{Lpspi}
+use Rattle.c_api.specs.HostRun.{of_call}
+use Rattle.c_api.specs.HostCall.{disabled_by}
+use Rattle.c_api.proofs.HostLaws.{host_call}
+use Rattle.c_api.proofs.call.lpspi_disabled.Goals as goal
+
+pub returns : goal.returns
+returns c =
+    let a = c.args in
+    let x = c.disabled-r in
+    host_call x.result a.driver.now c.hand_back.ensures x.ensures
+    ∙ ap
+    (λ (d : Lpspi). of_call a.driver.now (disabled_by d a.budget a.script.now a.log.now a.kind a.a a.b))
+    c.driver_of-d.ensures
