@@ -1,7 +1,7 @@
 //! Links the static library of the proved core, and says what tests can be made.
 //!
 //! The archive is looked for in `LPSPI_STATICLIB_DIR` if that is set,
-//! otherwise in `../target/staticlib` beside this crate.
+//! otherwise in `../crates/c_api/out` beside this crate.
 //!
 //! Tests that need the original, one of the programs or the kit are ignored where it
 //! is missing. Where `CI` is `true` nothing is ignored: without the original the tests
@@ -26,7 +26,7 @@ fn link(package: &Path) {
     println!("cargo::rerun-if-env-changed={DIR_VARIABLE}");
 
     let dir = env::var_os(DIR_VARIABLE)
-        .map_or_else(|| package.join("../target/staticlib"), PathBuf::from);
+        .map_or_else(|| package.join("../crates/c_api/out"), PathBuf::from);
     let archive = dir.join("libc_api.a");
     println!("cargo::rerun-if-changed={}", archive.display());
 
@@ -35,7 +35,7 @@ fn link(package: &Path) {
         println!("cargo::rustc-link-lib=static=c_api");
     } else {
         println!(
-            "cargo::error={} is missing: run `rt staticlib c_api` in the repository first, \
+            "cargo::error={} is missing: run `rt lib` in crates/c_api first, \
              or set {DIR_VARIABLE} to the directory of libc_api.a",
             archive.display()
         );
@@ -51,7 +51,7 @@ fn find(package: &Path) {
     }
     for name in ["buslog", "lpspi", "trial"] {
         println!("cargo::rustc-check-cfg=cfg({name})");
-        let program = package.join("../target/bin").join(name);
+        let program = package.join(format!("../crates/{name}/out/{name}"));
         println!("cargo::rerun-if-changed={}", program.display());
         if place::ci() || program.is_file() {
             println!("cargo::rustc-cfg={name}");

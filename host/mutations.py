@@ -1,7 +1,7 @@
 #!/usr/bin/env python3
 """Small changes of the original, each of which the comparison with the port must see.
 
-    rt staticlib c_api; host/mutations.py [NUMBER ..]
+    (cd crates/c_api && rt lib); host/mutations.py [NUMBER ..]
 
 One line for each: in how many cases port and original part, random and directed ones. The first change is none, and must pass. It takes some minutes and is not part of the gate.
 

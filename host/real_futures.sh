@@ -26,7 +26,7 @@ directory = "$registry"
 END
 
 export CI=true
-export LPSPI_STATICLIB_DIR=${LPSPI_STATICLIB_DIR:-$host/../target/staticlib}
+export LPSPI_STATICLIB_DIR=${LPSPI_STATICLIB_DIR:-$host/../crates/c_api/out}
 export LPSPI_ORIGINAL=${LPSPI_ORIGINAL:-$host/../../shared/docs/src/src/common/lpspi.rs}
 cargo tree --offline --package original --depth 1
 for seed; do

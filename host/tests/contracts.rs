@@ -9,6 +9,30 @@ use sources::{code, sources};
 use std::fs;
 use std::path::Path;
 
+/// Whether a line has the brace of a function's body: one that no clause opens. So many braces of clauses are open before the line,
+/// and then behind it.
+fn opens_body(line: &str, open: &mut usize) -> bool {
+    let mut head = String::new();
+    for c in line.chars() {
+        match c {
+            '{' if *open == 0 && !begins_clause(&head) => return true,
+            '{' => *open += 1,
+            '}' => *open -= 1,
+            _ if *open == 0 => head.push(c),
+            _ => head.clear(),
+        }
+    }
+    false
+}
+
+/// Whether a clause begins so, as `requires {` and `ensures low {` do before the brace.
+fn begins_clause(head: &str) -> bool {
+    let first = head
+        .split(|c: char| !c.is_alphanumeric())
+        .find(|word| !word.is_empty());
+    first.is_some_and(|word| ["requires", "ensures", "ghost"].contains(&word))
+}
+
 /// The signature and contract of each public function: what stands before its body.
 fn public_functions(text: &str) -> Vec<String> {
     let lines = code(text);
@@ -19,10 +43,9 @@ fn public_functions(text: &str) -> Vec<String> {
     let mut functions = Vec::new();
     for (i, line) in lines.iter().enumerate() {
         if public(line) {
+            let mut open = 0;
             let end = (i..lines.len())
-                .find(|&j| {
-                    lines[j].trim() == "{" || (lines[j].ends_with('{') && !lines[j].contains('⌜'))
-                })
+                .find(|&j| opens_body(lines[j], &mut open))
                 .expect("a body");
             functions.push(lines[i..end].join("\n"));
         }
@@ -70,13 +93,23 @@ fn public_functions_have_contracts() {
 #[test]
 fn a_missing_contract_is_seen() {
     let found = public_functions(
-        "pub fn f(a: u8) -> u8\n{\n    a\n}\n\nfn g() {\n}\n\npub extern \"C\" fn h(a: u8)\n    requires { ⌜ a ≡ 0 ⌝ }\n{\n}\n",
+        "pub fn f(a: u8) -> u8\n{\n    a\n}\n\nfn g() {\n}\n\npub extern \"C\" fn h(a: u8)\n    requires { a ≡ 0 }\n{\n}\n",
     );
     assert_eq!(
         found,
         [
             "pub fn f(a: u8) -> u8",
-            "pub extern \"C\" fn h(a: u8)\n    requires { ⌜ a ≡ 0 ⌝ }"
+            "pub extern \"C\" fn h(a: u8)\n    requires { a ≡ 0 }"
         ]
+    );
+}
+
+/// A clause may end a line with a brace of its own.
+#[test]
+fn a_contract_ends_at_the_body() {
+    let contract = "    pub fn f(self) -> Self\n        requires low { self.0 ≤ 1 }\n        ensures { result ≡ word (record {\n          a = 1;\n        }) self.0 }";
+    assert_eq!(
+        public_functions(&format!("{contract}\n    {{\n        self\n    }}\n")),
+        [contract]
     );
 }

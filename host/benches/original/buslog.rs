@@ -120,7 +120,7 @@ fn original_program() -> PathBuf {
     profile.join("examples/original_buslog")
 }
 
-/// `rt check buslog` makes it.
+/// `rt run` in crates/buslog makes it.
 fn port_program() -> PathBuf {
-    Path::new(env!("CARGO_MANIFEST_DIR")).join("../target/bin/buslog")
+    Path::new(env!("CARGO_MANIFEST_DIR")).join("../crates/buslog/out/buslog")
 }

@@ -4,7 +4,7 @@
 //! Run with `cargo bench`, and with `cargo bench --profile checked` for an original
 //! with overflow checks; the port is the same library in both. An argument after
 //! `--` is a part of the names of the jobs to time. The programs must be there:
-//! `rt check buslog`, and `cargo build --example original_buslog` in the same profile
+//! `rt run` in crates/buslog, and `cargo build --example original_buslog` in the same profile
 //! (`--release`, or `--profile checked`).
 
 mod bus;

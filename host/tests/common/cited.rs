@@ -31,8 +31,11 @@ pub const OUTSIDE: &[(&str, &str)] = &[
     ("letters that stand for any name", "MODULE Q a_b"),
 ];
 
-/// How paths begin that lead out of the tree: to the folder beside the repository, and to what is built.
-const BESIDE: [&str; 2] = ["../shared", "target/"];
+/// How paths begin that lead out of the tree, to the folder beside the repository.
+const BESIDE: &str = "../shared";
+
+/// What is built stands in folders of that name.
+const BUILT: &str = "/out/";
 
 /// This page is history, and names what is gone.
 const HISTORY: &str = "docs/CHANGES.md";
@@ -60,7 +63,7 @@ pub fn files(folder: &str) -> Vec<String> {
     for entry in fs::read_dir(root().join(folder)).unwrap() {
         let entry = entry.unwrap();
         let name = entry.file_name().into_string().unwrap();
-        if name == "target" || name == ".git" {
+        if ["target", "out", ".git"].contains(&&name[..]) {
             continue;
         }
         let path = format!("{folder}{name}");
@@ -268,7 +271,7 @@ impl<'a> Cited<'a> {
 
     fn file(&mut self, path: &str) {
         self.files += 1;
-        let beside = BESIDE.iter().any(|beside| path.starts_with(beside));
+        let beside = path.starts_with(BESIDE) || path.contains(BUILT);
         // An edit may be named by crate and name.
         let mut ends = [path.to_owned(), format!("{path}.edit")].into_iter();
         let there = ends.any(|end| self.repository.ending(&end).next().is_some());

@@ -1,4 +1,4 @@
-//! The programs that `rt check` makes.
+//! The programs that `rt ci` and `rt run` make.
 
 use std::io::{ErrorKind, Write};
 use std::path::Path;
@@ -8,9 +8,7 @@ use std::thread;
 /// Runs a program on an input that is written in pieces of that size. It must
 /// succeed, and say nothing on standard error.
 pub fn program(name: &str, arguments: &[&str], input: &[u8], piece: usize) -> Vec<u8> {
-    let path = Path::new(env!("CARGO_MANIFEST_DIR"))
-        .join("../target/bin")
-        .join(name);
+    let path = Path::new(env!("CARGO_MANIFEST_DIR")).join(format!("../crates/{name}/out/{name}"));
     let mut child = Command::new(&path)
         .args(arguments)
         .stdin(Stdio::piped())
@@ -19,7 +17,7 @@ pub fn program(name: &str, arguments: &[&str], input: &[u8], piece: usize) -> Ve
         .spawn()
         .unwrap_or_else(|error| {
             let path = path.display();
-            panic!("{path}: {error}; `rt check {name}` makes it")
+            panic!("{path}: {error}; `rt run` in crates/{name} makes it")
         });
     let mut stdin = child.stdin.take().expect("piped");
     let output = thread::scope(|scope| {
