@@ -1,9 +1,13 @@
 //! No function calls itself, directly or through others (document 02, No. 4).
 //!
-//! `rt mir NAME` prints what is proved and compiled of a crate, and of the functions of other crates, the kit's among them, that it
-//! reaches. Every call in it names its function; so these names are the whole graph of calls, and it must have no cycle.
+//! Of a library, the functions for hosts among them, `tools/kit.py mir NAME` prints what is proved and compiled. Every call in it names its
+//! function, and the function is one of these crates'; so these names are the whole graph of calls, and it must have no cycle.
 //!
-//! Where a crate below NAME has changed since it was proved, `rt mir` proves it first. Let no other `rt` work on the tree meanwhile.
+//! Of a program the kit prints no such thing, but it proves no cycle of calls without a measure, which stands in a folder of the cycle's
+//! own, `proofs/+NAME/`. No crate may have one. What the programs call in the kit's library is not followed; the library's own cycles
+//! are in three modules, of which no source may have a word.
+//!
+//! Where something has changed since it was proved, `tools/kit.py` has it proved first. Let no other `rt` work on the tree meanwhile.
 
 #[path = "common/sources.rs"]
 mod sources;
@@ -11,34 +15,45 @@ mod sources;
 use sources::{code, sources};
 use std::collections::{BTreeMap, BTreeSet};
 use std::fs;
-use std::path::Path;
+use std::path::{Path, PathBuf};
 use std::process::{Command, Output};
 
 /// Each function, and those that it calls.
 type Calls = BTreeMap<String, BTreeSet<String>>;
 
-fn mir(repository: &Path, name: &str) -> Output {
-    let mut rt = Command::new("rt");
-    rt.args(["mir", name]).current_dir(repository);
-    rt.output().expect("`rt`, of the Rattle kit")
+/// What a command prints. It must succeed.
+fn printed(output: Output) -> String {
+    let said = String::from_utf8_lossy(&output.stderr);
+    let text = String::from_utf8(output.stdout).unwrap();
+    assert!(output.status.success(), "{text}{said}");
+    text
 }
 
-/// Adds what `rt mir` printed to `calls`.
-fn collect(mir: Output, calls: &mut Calls) {
-    let said = String::from_utf8_lossy(&mir.stderr);
-    assert!(mir.status.success(), "rt mir: {said}");
-    let text = String::from_utf8(mir.stdout).unwrap();
-    let by_name = text.matches("(call (direct (fnRef \"").count();
+fn mir(repository: &Path, name: &str) -> String {
+    let mut tool = Command::new("tools/kit.py");
+    tool.args(["mir", name]).current_dir(repository);
+    printed(tool.output().expect("tools/kit.py, by python3"))
+}
+
+/// Adds a crate's calls to `calls`, off its MIR, a list of `["NAME",{"lifetimes":..}]`.
+fn collect(mir: &str, calls: &mut Calls) {
+    assert!(mir.starts_with("[[") || mir == "[]\n", "a list of functions");
+    let by_name = mir.matches("{\"Call\":[{\"Fn\":[\"").count();
     assert_eq!(
-        text.matches("(call ").count(),
+        mir.matches("\"Call\"").count(),
         by_name,
         "each call names its function"
     );
-    // The last name is that of the function that a program starts with.
-    let (definitions, _) = text.rsplit_once("(fnRef \"").unwrap();
-    for definition in definitions.split("(fn-def \"").skip(1) {
-        let (name, body) = definition.split_once('"').unwrap();
-        let called = body.split("(fnRef \"").skip(1);
+    // Behind a bound an impl's functions are passed on, by no name of theirs.
+    assert_eq!(
+        mir.matches("\"dicts\":[").count(),
+        mir.matches("\"dicts\":[]").count(),
+        "no function is passed on behind a bound"
+    );
+    let pieces: Vec<_> = mir.split("\",{\"lifetimes\":").collect();
+    for pair in pieces.windows(2) {
+        let (_, name) = pair[0].rsplit_once("[\"").unwrap();
+        let called = pair[1].split("{\"Fn\":[\"").skip(1);
         let called = called.map(|rest| rest.split('"').next().unwrap().into());
         calls.entry(name.into()).or_default().extend(called);
     }
@@ -97,54 +112,226 @@ fn seen(calls: &Calls, name: &str) -> Vec<String> {
     names
 }
 
+/// The folders in which proofs of cycles of calls stand, and the functions that are named as parts of one.
+fn cycles_of(folder: &Path) -> Vec<PathBuf> {
+    let mut found = Vec::new();
+    let mut folders = vec![folder.join("proofs")];
+    while let Some(folder) = folders.pop().filter(|folder| folder.is_dir()) {
+        for entry in fs::read_dir(folder).unwrap() {
+            let path = entry.unwrap().path();
+            if path.file_name().unwrap().to_string_lossy().starts_with('+') {
+                found.push(path.clone());
+            }
+            folders.extend(path.is_dir().then_some(path));
+        }
+    }
+    for file in sources(&folder.join("src")) {
+        let text = fs::read_to_string(&file).unwrap();
+        found.extend(text.contains("#[cycle").then_some(file));
+    }
+    found
+}
+
+/// The modules of the kit's library that have a cycle of calls, by the folders of those cycles.
+fn cycles_of_the_kit() -> BTreeSet<String> {
+    let mut rt = Command::new("rt");
+    let page = printed(rt.arg("doc").output().expect("`rt`, of the Rattle kit"));
+    let rlibs = Path::new(page.trim()).with_file_name("rlibs");
+    let mut found = BTreeSet::new();
+    for name in [
+        "core",
+        "io",
+        "libc",
+        "os",
+        "std",
+        "std_alloc",
+        "std_collections",
+        "std_heap",
+        "std_io",
+    ] {
+        let list = rlibs.join(format!("{name}.rlib/toolchain/checked.json"));
+        let list = fs::read_to_string(&list).unwrap_or_else(|error| panic!("{list:?}: {error}"));
+        let proofs = format!("Rattle-{name}-proofs.");
+        assert!(list.contains(&proofs), "{name}: no module of a proof");
+        for module in list.split(&proofs[..]).skip(1) {
+            let module = module.split('"').next().unwrap();
+            if let Some((front, _)) = module.split_once(".+") {
+                let front: Vec<_> = front.split('.').take(2).collect();
+                found.insert(format!("{name}::{}", front.join("::")));
+            }
+        }
+    }
+    found
+}
+
 #[test]
 #[cfg_attr(not(kit), ignore = "the kit is missing")]
 fn no_function_calls_itself() {
     let repository = Path::new(env!("CARGO_MANIFEST_DIR")).join("..");
     let list = fs::read_to_string(repository.join("crates.txt")).unwrap();
     let lines = list.lines().filter(|line| !line.starts_with('#'));
-    let names: Vec<&str> = lines
-        .filter_map(|line| line.split_once(':'))
-        .map(|(name, _)| name)
+    let heads = lines.filter_map(|line| line.split_once(':'));
+    let names: Vec<&str> = heads
+        .map(|(head, _)| head.split(' ').next().unwrap())
         .collect();
     let mut calls = Calls::new();
-    // From the top: a crate whose functions were all reached from above adds nothing.
-    for name in names.into_iter().rev() {
-        let written = written(&repository.join("crates").join(name).join("src"));
-        if seen(&calls, name) != written {
-            collect(mir(&repository, name), &mut calls);
+    let mut of_programs = 0;
+    for name in names {
+        let folder = repository.join("crates").join(name);
+        let written = written(&folder.join("src"));
+        assert_eq!(cycles_of(&folder), [""; 0].map(PathBuf::from), "of {name}");
+        if folder.join("src/main.rt").is_file() {
+            of_programs += written.len();
+            continue;
         }
+        collect(&mir(&repository, name), &mut calls);
         assert_eq!(seen(&calls, name), written, "functions of {name}");
     }
-    assert!(calls.len() > 600, "only {} functions", calls.len());
+    let seen = calls.len() + of_programs;
+    assert!(seen > 600, "only {seen} functions");
     assert_eq!(cycle(&calls), None, "a cycle of calls");
 }
+
+/// Of the modules with cycles in the kit's library no source has a word.
+#[test]
+#[cfg_attr(not(kit), ignore = "the kit is missing")]
+fn no_cycle_of_the_kit_is_named() {
+    let modules = [
+        "core::slice::sort",
+        "std::thread::fork",
+        "std_collections::btree::node",
+    ];
+    assert_eq!(cycles_of_the_kit(), BTreeSet::from(modules.map(Into::into)));
+    let crates = Path::new(env!("CARGO_MANIFEST_DIR")).join("../crates");
+    let files = sources(&crates);
+    assert!(files.len() > 50, "only {} sources", files.len());
+    for file in files {
+        let text = fs::read_to_string(&file).unwrap();
+        let text = code(&text).join("\n").to_lowercase();
+        for word in ["sort", "select_nth", "thread", "btree"] {
+            assert!(!text.contains(word), "{}: {word}", file.display());
+        }
+    }
+}
+
+/// A tree with one library, `low`, whose proofs are those files.
+struct Tree(PathBuf);
+
+impl Tree {
+    fn new(name: &str, source: &str, proofs: &[(&str, String)]) -> Self {
+        let name = format!("lpspi-recursion-{}-{name}", std::process::id());
+        let tree = Self(std::env::temp_dir().join(name));
+        let low = tree.0.join("crates/low");
+        fs::create_dir_all(low.join("src")).unwrap();
+        fs::write(tree.0.join("crates.txt"), "low:\n").unwrap();
+        fs::write(low.join("src/lib.rt"), source).unwrap();
+        for (folder, text) in proofs {
+            let folder = low.join("proofs").join(folder);
+            fs::create_dir_all(&folder).unwrap();
+            fs::write(folder.join("Invariants.antt"), text).unwrap();
+        }
+        tree
+    }
+
+    fn rt(&self, words: &[&str]) -> Output {
+        let mut rt = Command::new("rt");
+        rt.args(words).current_dir(self.0.join("crates/low"));
+        rt.output().expect("`rt`, of the Rattle kit")
+    }
+
+    /// A cycle of its calls, once it is proved.
+    fn cycle(&self) -> String {
+        printed(self.rt(&["lib"]));
+        let made = self
+            .0
+            .join("crates/low/out/rlib/low.rlib/toolchain/mir.json");
+        let mut calls = Calls::new();
+        collect(&fs::read_to_string(made).unwrap(), &mut calls);
+        cycle(&calls).map_or("none".into(), |path| path.join(" "))
+    }
+
+    /// What is said where it is not proved.
+    fn refused(&self) -> String {
+        let output = self.rt(&["lib"]);
+        let said = String::from_utf8_lossy(&output.stderr);
+        let text = String::from_utf8_lossy(&output.stdout);
+        assert!(!output.status.success(), "{text}");
+        format!("{text}{said}")
+    }
+}
+
+impl Drop for Tree {
+    fn drop(&mut self) {
+        fs::remove_dir_all(&self.0).unwrap();
+    }
+}
+
+/// The measures of functions of a cycle, whose proofs stand in a folder.
+fn measures<'a>(folder: &'a str, measures: &[(&str, &str)]) -> (&'a str, String) {
+    let module = folder.replace('/', ".");
+    let mut text = format!("use Rattle.low.proofs.{module}.Given as goal\n");
+    for (name, measure) in measures {
+        text += &format!(
+            "\nabbrev pub decreases-{name} : goal.decreases-{name}\ndecreases-{name} l = {measure}\n"
+        );
+    }
+    (folder, text)
+}
+
+const TWICE: &str =
+    "pub fn twice(n: u32) -> u32 { half(half(n)) }\nfn half(n: u32) -> u32 { n / 2 }\n";
+const DOWN: &str = "fn down(n: u32) -> u32 { if n == 0 { 0 } else { down(n - 1) } }\n";
+const EVEN: &str = "fn even(n: u32) -> bool { if n == 0 { true } else { odd(n - 1) } }\n";
+const ODD: &str = "fn odd(n: u32) -> bool { if n == 0 { false } else { even(n - 1) } }\n";
+const METHOD: &str = "#[derive(Clone, Copy)]\npub struct Count { n: u32 }\nimpl Count { pub fn end(self) -> u32 { if self.n == 0 { 0 } else { Count { n: self.n - 1 }.end() } } }\n";
 
 /// The same on trees that have recursions.
 #[test]
 #[cfg_attr(not(kit), ignore = "the kit is missing")]
 fn a_recursion_is_seen() {
-    let tree = std::env::temp_dir().join(format!("lpspi-recursion-{}", std::process::id()));
-    let found = |source: &str| {
-        fs::create_dir_all(tree.join("crates/low/src")).unwrap();
-        fs::write(tree.join("crates.txt"), "low:\n").unwrap();
-        fs::write(tree.join("crates/low/src/lib.rt"), source).unwrap();
-        let printed = mir(&tree, "low");
-        fs::remove_dir_all(&tree).unwrap();
-        let mut calls = Calls::new();
-        collect(printed, &mut calls);
-        cycle(&calls).map_or("none".into(), |path| path.join(" "))
+    let found = |name: &str, source: &str, proofs: &[(&str, String)]| {
+        let tree = Tree::new(name, source, proofs);
+        let cycles = cycles_of(&tree.0.join("crates/low"));
+        assert_eq!(cycles.is_empty(), proofs.is_empty());
+        tree.cycle()
     };
-    let twice = "pub fn twice(n: u32) -> u32 { half(half(n)) }\nfn half(n: u32) -> u32 { n / 2 }\n";
-    assert_eq!(found(twice), "none");
-    let down = "fn down(n: u32) -> u32 { if n == 0 { 0 } else { down(n - 1) } }\n";
-    assert_eq!(found(&(twice.to_owned() + down)), "low::down low::down");
-    let even = "fn even(n: u32) -> bool { if n == 0 { true } else { odd(n - 1) } }\n";
-    let odd = "fn odd(n: u32) -> bool { if n == 0 { false } else { even(n - 1) } }\n";
+    assert_eq!(found("none", TWICE, &[]), "none");
+    let down = measures("+down", &[("down", "l.n")]);
     assert_eq!(
-        found(&(twice.to_owned() + even + odd)),
+        found("down", &(TWICE.to_owned() + DOWN), &[down]),
+        "low::down low::down"
+    );
+    let parity = measures("+parity", &[("even", "l.n"), ("odd", "l.n")]);
+    let both = format!("{TWICE}#[cycle(parity)]\n{EVEN}#[cycle(parity)]\n{ODD}");
+    assert_eq!(
+        found("parity", &both, &[parity]),
         "low::even low::odd low::even"
     );
-    let method = "pub struct Count { n: u32 }\nimpl Count { pub fn end(self) -> u32 { if self.n == 0 { 0 } else { self.end() } } }\n";
-    assert_eq!(found(method), "low::Count::end low::Count::end");
+    let end = measures("Count/+end", &[("end", "l.self.n")]);
+    assert_eq!(
+        found("method", METHOD, &[end]),
+        "low::Count::end low::Count::end"
+    );
+}
+
+/// The kit's rule, by which the programs have no recursion.
+#[test]
+#[cfg_attr(not(kit), ignore = "the kit is missing")]
+fn a_recursion_without_a_folder_of_its_own_is_not_proved() {
+    let both = Tree::new("unnamed", &format!("{TWICE}{EVEN}{ODD}"), &[]);
+    let said = both.refused();
+    assert!(said.contains("error[unnamed-cycle]"), "{said}");
+    let source = format!("{TWICE}{DOWN}#[cycle(parity)]\n{EVEN}#[cycle(parity)]\n{ODD}{METHOD}");
+    let said = Tree::new("unmeasured", &source, &[]).refused();
+    for (name, folder) in [
+        ("down", "+down"),
+        ("even", "+parity"),
+        ("odd", "+parity"),
+        ("Count::end", "Count/+end"),
+    ] {
+        let line = format!(
+            "fn low::{name}: no proof: expected a measure in ./proofs/{folder}/Invariants.antt"
+        );
+        assert!(said.contains(&line), "{line}\n{said}");
+    }
 }
