@@ -47,7 +47,7 @@ use Rattle.agreement.specs.declared.register.Role.TheVariants.{Sizes as sizes, S
 use Rattle.agreement.specs.declared.register.Role.TheVariants.{Control as control, Commands as commands}
 use Rattle.agreement.specs.declared.register.Role.TheVariants.{Sends as sends, Receives as receives, Holds as holds}
 use Rattle.agreement.specs.Start.{Job}
-use Rattle.agreement.specs.End.{Item, Command as aCommand, Word, Wire, queues, lowered, full, words_in, front, behind, emptied_if}
+use Rattle.agreement.specs.End.{Item, Command as a_command, Word, Wire, queues, lowered, full, words_in, front, behind, emptied_if}
 use Rattle.agreement.specs.End.{role_of, place_of, shows, read_by}
 use Rattle.agreement.specs.End.{written_by, answer_to, wire_after, fresh_wire, End, end, first_due, end_access, stepped}
 use Rattle.agreement.specs.Tally.{Tally, nothing, overrun, overrun_by}
@@ -315,7 +315,7 @@ module _ (n : ℕ) (accepts : Bool) (j : Job) (other : ℕ → ℕ) where
 
     -- A COMMAND, where nothing is queued
     abbrev pub commanded : Wire → Wire
-    commanded w = queues (w.transmit ++ (aCommand ∷ [])) w.receive w
+    commanded w = queues (w.transmit ++ (a_command ∷ [])) w.receive w
 
     pub core_command : (k : Work) (rs : List ℕ) (w : Wire) → Core c c m τ k rs w → k.sent < n → k.sent ≡ 0 → length w.transmit ≡ 0
         → Core c c m τ k rs (commanded w)
@@ -340,7 +340,7 @@ module _ (n : ℕ) (accepts : Bool) (j : Job) (other : ℕ → ℕ) where
     base_command w h B =
         record {
           small = B.small;
-          cap_t = omega (arith, h, length_snoc w.transmit aCommand, below_capacity j.exponent);
+          cap_t = omega (arith, h, length_snoc w.transmit a_command, below_capacity j.exponent);
           cap_r = B.cap_r;
           room = rw (command_only w.transmit h) (omega (arith, B.room));
           tx_is = λ h'. rw (command_only w.transmit h) refl;
@@ -545,7 +545,7 @@ module _ (n : ℕ) (accepts : Bool) (j : Job) (other : ℕ → ℕ) where
           base = base_command w N.4 B;
           now =
               now_send_turn f k rs (commanded w) B.small N.1 (core_command k rs w N.0 N.2 N.3 N.4)
-              (λ h. omega (arith, length_snoc w.transmit aCommand));
+              (λ h. omega (arith, length_snoc w.transmit a_command));
         })
     keep_step y (Sending Status) k q f rs w g B N = record {
       base = B;

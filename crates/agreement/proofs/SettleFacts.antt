@@ -26,7 +26,7 @@ use Rattle.machine.specs.declared.transfer.Work.{Work}
 use Rattle.machine.specs.Transfer.{at, send_turn, receive_turn, counted, one_sent, one_received, due_access, resumed}
 use Rattle.runs.proofs.Places.{counted_up}
 use Rattle.agreement.specs.Start.{Job}
-use Rattle.agreement.specs.End.{Command as aCommand, Wire, queues, words_in, front, behind, place_of, shows}
+use Rattle.agreement.specs.End.{Command as a_command, Wire, queues, words_in, front, behind, place_of, shows}
 use Rattle.agreement.specs.End.{registers_after, End, end, stepped}
 use Rattle.agreement.specs.Tally.{Tally}
 use Rattle.agreement.specs.Agreement.{OkTwice, seen}
@@ -403,7 +403,7 @@ module _ (n : ℕ) (accepts : Bool) (j : Job) (other : ℕ → ℕ) (small-e : j
         let B' = base_command n accepts j other small-e keeps c m τ w h B in
         let x' = core_command n accepts j other small-e keeps c m τ k rs w x l z h in
         go_command k q rs w g B h
-        (turn_send k q rs w' g' B' x' (λ l'. sending_any k q rs w' g' B' x' l' (λ y. omega (arith, length_snoc w.transmit aCommand)))
+        (turn_send k q rs w' g' B' x' (λ l'. sending_any k q rs w' g' B' x' l' (λ y. omega (arith, length_snoc w.transmit a_command)))
         (λ l'. receiving_any k q rs w' g' B' x' l'))
 
     flush_leads : (f : Flush) (k : Work) (q : Sequence) (rs : List ℕ) (w : Wire) (g : List ℕ) → Bs w

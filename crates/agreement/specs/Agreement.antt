@@ -60,10 +60,10 @@ pub record Finish (g a : Start) (events : List Event) : Type 0 where
   pub antenna : OkTwice (seen (pair_after g a (events ++ more)).antenna)
 
 -- of boards and buffers at fresh, a list of events, both ends after it, and both read buffers then
-pub record Agreement (g a : Start) (events : List Event) (gate antenna : Seen) (gateBuffer antennaBuffer : List ℕ) : Type 0 where
+pub record Agreement (g a : Start) (events : List Event) (gate antenna : Seen) (gate_buffer antenna_buffer : List ℕ) : Type 0 where
   -- (a) once both ends have had Ok twice, each holds the other's elements, and all queues are empty
-  pub gate_holds : OkTwice gate → OkTwice antenna → Holds g a gateBuffer
-  pub antenna_holds : OkTwice gate → OkTwice antenna → Holds a g antennaBuffer
+  pub gate_holds : OkTwice gate → OkTwice antenna → Holds g a gate_buffer
+  pub antenna_holds : OkTwice gate → OkTwice antenna → Holds a g antenna_buffer
   pub gate_empty : OkTwice gate → OkTwice antenna → Emptied gate
   pub antenna_empty : OkTwice gate → OkTwice antenna → Emptied antenna
   -- (b) an end whose flag a lost or a made-up word set, anywhere in the list, has not had Ok twice

@@ -46,12 +46,12 @@ unequal m n = not (eqb m n)
 
 -- number 9, of the total lengths: "a FIFO exponent over 4, or unequal width, order or total length"
 abbrev pub unfit_by : Board → Board → ℕ → ℕ → Bool
-unfit_by g a gateTotal antennaTotal =
+unfit_by g a gate_total antenna_total =
     ltb 4 g.exponent
     || (ltb 4 a.exponent
     || (unequal (width_bits g.width) (width_bits a.width)
     || (unequal (lsbf_of g.driver.order) (lsbf_of a.driver.order)
-    || unequal gateTotal antennaTotal)))
+    || unequal gate_total antenna_total)))
 
 -- number 9
 abbrev pub unfit : Start → Start → Bool

@@ -73,16 +73,16 @@ events_append [] ys = refl
 events_append (x ∷ xs) ys = ap (λ (vs : List Event). event_of x ∷ vs) (events_append xs ys)
 
 -- (c) OF THE PAIR ENTRY
-module _ (k : ℕ) (g a : Board) (gate_read gateWrite antenna_read antennaWrite : List ℕ) where
+module _ (k : ℕ) (g a : Board) (gate_read gate_write antenna_read antenna_write : List ℕ) where
   -- what the entry answers to a list of bytes
   abbrev pub answered : List ℕ → TrialLeft
-  answered bytes = trial_of k g a gate_read gateWrite antenna_read antennaWrite bytes
+  answered bytes = trial_of k g a gate_read gate_write antenna_read antenna_write bytes
 
   abbrev pub gate_start : Start
-  gate_start = start_of g gate_read gateWrite
+  gate_start = start_of g gate_read gate_write
 
   abbrev pub antenna_start : Start
-  antenna_start = start_of a antenna_read antennaWrite
+  antenna_start = start_of a antenna_read antenna_write
 
   -- further bytes, all of them steps or clocks, after which it answers 0 and both ends have had Ok twice
   pub record Reaches (bytes : List ℕ) : Type 0 where

@@ -135,13 +135,13 @@ same_event j k j' k' p Clock e f g h = same_clock j k j' k' (words_in p.gate.wir
 same_event j k j' k' p (Noise Gate d) e f g h = refl
 same_event j k j' k' p (Noise Antenna d) e f g h = refl
 
-module _ (g a : Start) (gl al : Link) (gateSend antennaSend : List ℕ) where
-  pub one_more : (gs hs : Station) (gw aw gr ar : List ℕ) → Linked g a gl al gateSend antennaSend (length gw) (length aw)
+module _ (g a : Start) (gl al : Link) (gate_send antenna_send : List ℕ) where
+  pub one_more : (gs hs : Station) (gw aw gr ar : List ℕ) → Linked g a gl al gate_send antenna_send (length gw) (length aw)
       → gs.received ≤ length gw → hs.received ≤ length aw
       → (bytes : List ℕ) (i : ℕ) → i < length bytes → pair (end_of gs gw gr) (end_of hs aw ar) ≡ pair_after g a (events_of (take i bytes))
       → (v : Event) → v ≡ event_of (get_or bytes i 0) → (p : Pair)
       → (Provided gs gw → Provided hs aw
-      → p ≡ happened (link_job gl gateSend) (link_job al antennaSend) (pair (end_of gs gw gr) (end_of hs aw ar)) v)
+      → p ≡ happened (link_job gl gate_send) (link_job al antenna_send) (pair (end_of gs gw gr) (end_of hs aw ar)) v)
       → p ≡ pair_after g a (events_of (take (i + 1) bytes))
   one_more gs hs gw aw gr ar l wg wa bytes i h e v ev p next =
       let f = fit g a l.fits in
@@ -158,17 +158,17 @@ module _ (g a : Start) (gl al : Link) (gateSend antennaSend : List ℕ) where
         place = room_for hs aw ar q.antenna a ea wa l.antenna.room (antenna_receives g a f vs);
         idle = idle_for hs aw ar q.antenna ea (λ v h. antenna_command_first g a f vs v h);
       })
-      ∙ ap₂ (happened (link_job gl gateSend) (link_job al antennaSend)) e ev
-      ∙ same_event (link_job gl gateSend) (link_job al antennaSend) (job g) (job a) q (event_of (get_or bytes i 0))
+      ∙ ap₂ (happened (link_job gl gate_send) (link_job al antenna_send)) e ev
+      ∙ same_event (link_job gl gate_send) (link_job al antenna_send) (job g) (job a) q (event_of (get_or bytes i 0))
       l.gate.exponent l.antenna.exponent
       (λ k d. l.gate.words (gate_sends g a f vs k d).0 q.gate.received k)
       (λ k d. l.antenna.words (antenna_sends g a f vs k d).0 q.antenna.received k)
       ∙ rw (add-one i) (sym (after_last (job g) (job a) (fresh_pair g a) bytes i h))
 
-  pub relinked : {m n m' n' : ℕ} → m' ≡ m → n' ≡ n → Linked g a gl al gateSend antennaSend m n → Linked g a gl al gateSend antennaSend m' n'
+  pub relinked : {m n m' n' : ℕ} → m' ≡ m → n' ≡ n → Linked g a gl al gate_send antenna_send m n → Linked g a gl al gate_send antenna_send m' n'
   relinked {m} {n} {m'} {n'} em en l =
-      subst (λ (i : ℕ). Linked g a gl al gateSend antennaSend m' i) (sym en)
-      (subst (λ (i : ℕ). Linked g a gl al gateSend antennaSend i n) (sym em) l)
+      subst (λ (i : ℕ). Linked g a gl al gate_send antenna_send m' i) (sym en)
+      (subst (λ (i : ℕ). Linked g a gl al gate_send antenna_send i n) (sym em) l)
 
 -- room among so many places
 pub resized : {gl al : Link} {ends : Stations} {m n m' n' : ℕ} → m' ≡ m → n' ≡ n → Room gl al ends m n → Room gl al ends m' n'

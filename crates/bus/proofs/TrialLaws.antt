@@ -149,15 +149,15 @@ module _ (k : ℕ) (s t : Start) (events : List ℕ) (r : Outcome) (gate_words a
     antenna_received = rw h (ap (λ (i : ℕ). take i antenna_words) za);
   }
 
-  pub ran_events : (stations : Stations) (gateRegisters antennaRegisters : List ℕ) → unpaired k s t ≡ false
+  pub ran_events : (stations : Stations) (gate_registers antenna_registers : List ℕ) → unpaired k s t ≡ false
       → r ≡ record {
         number = 0;
-        gate = record { station = stations.gate; registers = gateRegisters };
-        antenna = record { station = stations.antenna; registers = antennaRegisters };
+        gate = record { station = stations.gate; registers = gate_registers };
+        antenna = record { station = stations.antenna; registers = antenna_registers };
       }
-      → pair_of stations gate_words gateRegisters antenna_words antennaRegisters ≡ pair_after s t (events_of events)
+      → pair_of stations gate_words gate_registers antenna_words antenna_registers ≡ pair_after s t (events_of events)
       → Ran k s t events r gate_words antenna_words
-  ran_events stations gateRegisters antennaRegisters h e came = record {
+  ran_events stations gate_registers antenna_registers h e came = record {
     number = ap (λ (x : Outcome). x.number) e ∙ rw h;
     gate = ap (λ (x : Outcome). state_of x.gate) e ∙ ap (λ (p : Pair). seen p.gate) came ∙ rw h;
     antenna = ap (λ (x : Outcome). state_of x.antenna) e ∙ ap (λ (p : Pair). seen p.antenna) came ∙ rw h;
@@ -170,10 +170,10 @@ module _ (k : ℕ) (s t : Start) (events : List ℕ) (r : Outcome) (gate_words a
 
 -- DEMAND 3 of what the code holds
 pub agreement_left : (g a : Start) → unfit g a ≡ false → Elements (element_bits g) (started g)
-    → Elements (element_bits a) (started a) → (bytes : List ℕ) (x y : Seen) (gateBuffer antennaBuffer : List ℕ)
+    → Elements (element_bits a) (started a) → (bytes : List ℕ) (x y : Seen) (gate_buffer antenna_buffer : List ℕ)
     → x ≡ seen (pair_after g a (events_of bytes)).gate → y ≡ seen (pair_after g a (events_of bytes)).antenna
-    → gateBuffer ≡ buffer_of g (pair_after g a (events_of bytes)).gate → antennaBuffer ≡ buffer_of a (pair_after g a (events_of bytes)).antenna
-    → Agreement g a (events_of bytes) x y gateBuffer antennaBuffer
+    → gate_buffer ≡ buffer_of g (pair_after g a (events_of bytes)).gate → antenna_buffer ≡ buffer_of a (pair_after g a (events_of bytes)).antenna
+    → Agreement g a (events_of bytes) x y gate_buffer antenna_buffer
 agreement_left g a fits small-g small-a bytes x y gb ab ex ey eg ea =
     let vs = events_of bytes in
     let p = pair_after g a vs in

@@ -11,4 +11,4 @@ total_by inplace read write = cond inplace read (max read write)
 
 -- number 9, of the total lengths
 abbrev pub unpaired_by : ℕ → Board → Board → ℕ → ℕ → Bool
-unpaired_by k g a gateTotal antennaTotal = unequal (width_bits g.width) k || unfit_by g a gateTotal antennaTotal
+unpaired_by k g a gate_total antenna_total = unequal (width_bits g.width) k || unfit_by g a gate_total antenna_total

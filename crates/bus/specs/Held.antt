@@ -116,8 +116,8 @@ pub record Room (gl al : Link) (ends : Stations) (gate_places antenna_places : �
 
 -- the pair, of the words received and the registers that stand beside its ends
 abbrev pub pair_of : Stations → List ℕ → List ℕ → List ℕ → List ℕ → Pair
-pair_of x gate_words gateRegisters antenna_words antennaRegisters =
-    pair (end_of x.gate gate_words gateRegisters) (end_of x.antenna antenna_words antennaRegisters)
+pair_of x gate_words gate_registers antenna_words antenna_registers =
+    pair (end_of x.gate gate_words gate_registers) (end_of x.antenna antenna_words antenna_registers)
 
 -- an end of a board that has made no access
 pub record Fresh (b : Entrant) (s : Station) : Type 0 where
@@ -139,10 +139,10 @@ pub record LinkFits (s : Start) (l : Link) (send : List ℕ) (places : ℕ) : Ty
   pub room : accepted s ≡ true → frame_words s ≤ places
 
 -- two boards that fit, each with its link
-pub record Linked (g a : Start) (gl al : Link) (gateSend antennaSend : List ℕ) (gate_places antenna_places : ℕ) : Type 0 where
+pub record Linked (g a : Start) (gl al : Link) (gate_send antenna_send : List ℕ) (gate_places antenna_places : ℕ) : Type 0 where
   pub fits : unfit g a ≡ false
-  pub gate : LinkFits g gl gateSend gate_places
-  pub antenna : LinkFits a al antennaSend antenna_places
+  pub gate : LinkFits g gl gate_send gate_places
+  pub antenna : LinkFits a al antenna_send antenna_places
 
 -- a board that enters a trial of elements of k bits with these buffers: its total length, and the words packed of what it starts with
 pub record Prepared (k : ℕ) (b : Entrant) (read write send : List ℕ) : Type 0 where
@@ -163,10 +163,10 @@ pub record Ran (k : ℕ) (s t : Start) (events : List ℕ) (r : Outcome) (gate_w
   pub antenna_received : take r.antenna.station.received antenna_words ≡ (ends_of k s t events).antenna.received
 
 -- of two boards that enter, whatever buffers their words were packed from
-pub record PairRun (k : ℕ) (g a : Entrant) (gateSend antennaSend events : List ℕ) (r : Outcome) (gate_words antenna_words : List ℕ)
+pub record PairRun (k : ℕ) (g a : Entrant) (gate_send antenna_send events : List ℕ) (r : Outcome) (gate_words antenna_words : List ℕ)
     : Type 0 where
   pub gate_places : r.gate.station.received ≤ 128
   pub antenna_places : r.antenna.station.received ≤ 128
-  pub ran : (gate_read gateWrite antenna_read antennaWrite : List ℕ) → Prepared k g gate_read gateWrite gateSend
-      → Prepared k a antenna_read antennaWrite antennaSend
-      → Ran k (start_of g.board gate_read gateWrite) (start_of a.board antenna_read antennaWrite) events r gate_words antenna_words
+  pub ran : (gate_read gate_write antenna_read antenna_write : List ℕ) → Prepared k g gate_read gate_write gate_send
+      → Prepared k a antenna_read antenna_write antenna_send
+      → Ran k (start_of g.board gate_read gate_write) (start_of a.board antenna_read antenna_write) events r gate_words antenna_words

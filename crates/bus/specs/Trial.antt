@@ -40,9 +40,9 @@ trial_left r gate_read antenna_read =
 
 -- 9: all as found. Else the events, from fresh
 abbrev pub trial_of : ℕ → Board → Board → List ℕ → List ℕ → List ℕ → List ℕ → List ℕ → TrialLeft
-trial_of k g a gate_read gateWrite antenna_read antennaWrite events =
-    let s = start_of g gate_read gateWrite in
-    let t = start_of a antenna_read antennaWrite in
+trial_of k g a gate_read gate_write antenna_read antenna_write events =
+    let s = start_of g gate_read gate_write in
+    let t = start_of a antenna_read antenna_write in
     cond (unpaired k s t)
     (record { number = 9; gate = seen (fresh_end s); antenna = seen (fresh_end t); gate_read = gate_read; antenna_read = antenna_read })
     (let p = pair_after s t (events_of events) in
@@ -55,11 +55,11 @@ trial_of k g a gate_read gateWrite antenna_read antennaWrite events =
     })
 
 -- THE PROMISE OF THE PAIR ENTRY, of the result and the read buffers that it leaves
-pub record Tried (k : ℕ) (g a : Board) (gate_read gateWrite antenna_read antennaWrite events : List ℕ) (r : Outcome)
-    (gateLeft antennaLeft : List ℕ) : Type 0 where
+pub record Tried (k : ℕ) (g a : Board) (gate_read gate_write antenna_read antenna_write events : List ℕ) (r : Outcome)
+    (gate_left antenna_left : List ℕ) : Type 0 where
   -- all of it is the definition's
-  pub same : trial_left r gateLeft antennaLeft ≡ trial_of k g a gate_read gateWrite antenna_read antennaWrite events
+  pub same : trial_left r gate_left antenna_left ≡ trial_of k g a gate_read gate_write antenna_read antenna_write events
   -- and where the boards fit, demand 3 holds of it
   pub agreement : r.number ≡ 0
-      → Agreement (start_of g gate_read gateWrite) (start_of a antenna_read antennaWrite) (events_of events) (state_of r.gate)
-      (state_of r.antenna) gateLeft antennaLeft
+      → Agreement (start_of g gate_read gate_write) (start_of a antenna_read antenna_write) (events_of events) (state_of r.gate)
+      (state_of r.antenna) gate_left antenna_left

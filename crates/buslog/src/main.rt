@@ -1,13 +1,32 @@
 // Four lines on standard input: a separate exchange. Prints its listing, or `bad`.
 #![tactic(auto)]
-use libc::{STDIN_FILENO, STDOUT_FILENO};
-use lines::buslog::{INPUT, OUTPUT, buslog};
 
-fn main() {
+ghost use Rattle.std.specs.Prelude.{◌≤◌, length, IfOk};
+
+use lines::buslog::{INPUT, OUTPUT, buslog};
+use std::io;
+use std::io::Read;
+
+// Reads until the buffer is full or the input ends; how many bytes it put at the buffer's start.
+fn read_full(input: &mut impl Read, to: &mut [u8]) -> io::Result<usize>
+    ensures { IfOk result (λ n. n ≤ length to.new) }
+{
+    let mut done = 0;
+    while done < to.len() {
+        let n = input.read(&mut to[done..])?;
+        if n == 0 {
+            break;
+        }
+        done += n;
+    }
+    Ok(done)
+}
+
+fn main(rt: HostRuntime) -> io::Result<()> {
     // One byte more than the longest input.
     let mut input = [0u8; INPUT + 1];
-    let read = io::read_full(STDIN_FILENO, &mut input);
+    let read = read_full(&mut rt.stdin(), &mut input)?;
     let mut out = [0u8; OUTPUT];
     let n = buslog(&input[..read], &mut out);
-    io::write_all(STDOUT_FILENO, &out[..n]);
+    rt.write_all(&out[..n])
 }

@@ -31,21 +31,21 @@ fits_by : (b : Bool) (x y : TrialLeft) → x.number ≡ 9 → (cond b x y).numbe
 fits_by true x y e h = absurd (omega (arith, e, h))
 fits_by false x y e h = refl
 
-module _ (w : Width) (gateDriver antennaDriver inplace gate_exponent antenna_exponent : ℕ)
-    (gate_read gateWrite antenna_read antennaWrite events state : List ℕ) where
+module _ (w : Width) (gate_driver antenna_driver inplace gate_exponent antenna_exponent : ℕ)
+    (gate_read gate_write antenna_read antenna_write events state : List ℕ) where
   abbrev pub gate_start : Start
-  gate_start = start_of (board_of w gateDriver inplace gate_exponent) gate_read gateWrite
+  gate_start = start_of (board_of w gate_driver inplace gate_exponent) gate_read gate_write
 
   abbrev pub antenna_start : Start
-  antenna_start = start_of (board_of w antennaDriver (inplace / 2) antenna_exponent) antenna_read antennaWrite
+  antenna_start = start_of (board_of w antenna_driver (inplace / 2) antenna_exponent) antenna_read antenna_write
 
   abbrev pub left : HostTrial
-  left = trial_by w gateDriver antennaDriver inplace gate_exponent antenna_exponent gate_read gateWrite antenna_read antennaWrite events state
+  left = trial_by w gate_driver antenna_driver inplace gate_exponent antenna_exponent gate_read gate_write antenna_read antenna_write events state
 
   abbrev pub outcome : TrialLeft
   outcome =
-      trial_of (width_bits w) (board_of w gateDriver inplace gate_exponent) (board_of w antennaDriver (inplace / 2) antenna_exponent)
-      gate_read gateWrite antenna_read antennaWrite events
+      trial_of (width_bits w) (board_of w gate_driver inplace gate_exponent) (board_of w antenna_driver (inplace / 2) antenna_exponent)
+      gate_read gate_write antenna_read antenna_write events
 
   small : (p : Bool) (reads writes : List ℕ) → Elements (width_bits w) reads → Elements (width_bits w) writes
       → Elements (width_bits w) (cond p reads writes)
@@ -53,16 +53,16 @@ module _ (w : Width) (gateDriver antennaDriver inplace gate_exponent antenna_exp
   small false reads writes r s = s
 
   -- DEMAND 3, over the read buffers that the host lent
-  pub host_agreement : Elements (width_bits w) gate_read → Elements (width_bits w) gateWrite → Elements (width_bits w) antenna_read
-      → Elements (width_bits w) antennaWrite → left.number ≡ 0
+  pub host_agreement : Elements (width_bits w) gate_read → Elements (width_bits w) gate_write → Elements (width_bits w) antenna_read
+      → Elements (width_bits w) antenna_write → left.number ≡ 0
       → Agreement gate_start antenna_start (events_of events) outcome.gate outcome.antenna left.gate_read left.antenna_read
   host_agreement gr gw ar aw zero_number =
       let taken : unpaired (width_bits w) gate_start antenna_start ≡ false =
       fits_by (unpaired (width_bits w) gate_start antenna_start) _ _ refl zero_number in
       rw taken
       (agreement gate_start antenna_start (fits_at w (unfit gate_start antenna_start) taken)
-      (small gate_start.board.inplace gate_read gateWrite gr gw)
-      (small antenna_start.board.inplace antenna_read antennaWrite ar aw) (events_of events))
+      (small gate_start.board.inplace gate_read gate_write gr gw)
+      (small antenna_start.board.inplace antenna_read antenna_write ar aw) (events_of events))
 
   -- THE STATES: where the number is 0 and 136 words were lent, word i of the gate's 68 and of the antenna's
   module _ (room : 136 ≤ length state) (zero_number : left.number ≡ 0) where
@@ -105,8 +105,8 @@ module _ (w : Width) (gateDriver antennaDriver inplace gate_exponent antenna_exp
     antenna_ok = ok_of_state a (λ i. get_or left.state (68 + i) 0) antenna_state
 
     -- WHAT A HOST MAY CONCLUDE from four answers 0: each read buffer has the other board's elements, or fillers
-    pub host_holds : Elements (width_bits w) gate_read → Elements (width_bits w) gateWrite → Elements (width_bits w) antenna_read
-        → Elements (width_bits w) antennaWrite → get_or left.state 0 0 ≡ 0 → get_or left.state 1 0 ≡ 0 → get_or left.state 68 0 ≡ 0
+    pub host_holds : Elements (width_bits w) gate_read → Elements (width_bits w) gate_write → Elements (width_bits w) antenna_read
+        → Elements (width_bits w) antenna_write → get_or left.state 0 0 ≡ 0 → get_or left.state 1 0 ≡ 0 → get_or left.state 68 0 ≡ 0
         → get_or left.state 69 0 ≡ 0 → Holds gate_start antenna_start left.gate_read × Holds antenna_start gate_start left.antenna_read
     host_holds gr gw ar aw gt gf at af =
         let d = host_agreement gr gw ar aw zero_number in

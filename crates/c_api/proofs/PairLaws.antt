@@ -141,19 +141,19 @@ shown n m xs bs ws e h s ew =
     store_stop n m (λ i. get_or xs i 0) (λ i. get_or xs i 0) bs ws h s (λ i l. refl) ew ∙ ap (λ (l : List ℕ). laid l bs) (tabulate_all m xs e)
 
 -- WHAT GOES BACK, of boards made of numbers
-pub host_trial_lem : (w : Width) (o : Outcome) (gateLeft antennaLeft : List ℕ) (g a : Board)
-    (gateDriver antennaDriver inplace gate_exponent antenna_exponent : ℕ)
-    (gate_read gateWrite antenna_read antennaWrite events state st : List ℕ) (n : ℕ)
-    → g ≡ board_of w gateDriver inplace gate_exponent → a ≡ board_of w antennaDriver (inplace / 2) antenna_exponent
-    → Tried (width_bits w) g a gate_read gateWrite antenna_read antennaWrite events o gateLeft antennaLeft
+pub host_trial_lem : (w : Width) (o : Outcome) (gate_left antenna_left : List ℕ) (g a : Board)
+    (gate_driver antenna_driver inplace gate_exponent antenna_exponent : ℕ)
+    (gate_read gate_write antenna_read antenna_write events state st : List ℕ) (n : ℕ)
+    → g ≡ board_of w gate_driver inplace gate_exponent → a ≡ board_of w antenna_driver (inplace / 2) antenna_exponent
+    → Tried (width_bits w) g a gate_read gate_write antenna_read antenna_write events o gate_left antenna_left
     → (n ≡ o.number) × (st ≡ state_left o.number (state_of o.gate) (state_of o.antenna) state)
-    → host_trial n gateLeft antennaLeft st
-    ≡ trial_by w gateDriver antennaDriver inplace gate_exponent antenna_exponent gate_read gateWrite antenna_read antennaWrite events state
-host_trial_lem w o gateLeft antennaLeft g a gateDriver antennaDriver inplace gate_exponent antenna_exponent
-    gate_read gateWrite antenna_read antennaWrite events state st n p q t s =
-    ap₂ (λ (m : ℕ) (l : List ℕ). host_trial m gateLeft antennaLeft l) s.0 s.1
+    → host_trial n gate_left antenna_left st
+    ≡ trial_by w gate_driver antenna_driver inplace gate_exponent antenna_exponent gate_read gate_write antenna_read antenna_write events state
+host_trial_lem w o gate_left antenna_left g a gate_driver antenna_driver inplace gate_exponent antenna_exponent
+    gate_read gate_write antenna_read antenna_write events state st n p q t s =
+    ap₂ (λ (m : ℕ) (l : List ℕ). host_trial m gate_left antenna_left l) s.0 s.1
     ∙ ap (λ (y : TrialLeft). of_trial y state)
-    (t.same ∙ ap₂ (λ (y z : Board). trial_of (width_bits w) y z gate_read gateWrite antenna_read antennaWrite events) p q)
+    (t.same ∙ ap₂ (λ (y z : Board). trial_of (width_bits w) y z gate_read gate_write antenna_read antenna_write events) p q)
 
 -- SIX WORDS
 pub six : {a a' b b' c c' d d' e e' f f' : ℕ} → a ≡ a' → b ≡ b' → c ≡ c' → d ≡ d' → e ≡ e' → f ≡ f'

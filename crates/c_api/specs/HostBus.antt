@@ -81,8 +81,8 @@ of_trial t state = host_trial t.number t.gate_read t.antenna_read (state_left t.
 
 -- bit 0 of `inplace` is the gate's, bit 1 the antenna's
 abbrev pub trial_by : Width → ℕ → ℕ → ℕ → ℕ → ℕ → List ℕ → List ℕ → List ℕ → List ℕ → List ℕ → List ℕ → HostTrial
-trial_by width gateDriver antennaDriver inplace gate_exponent antenna_exponent gate_read gateWrite antenna_read antennaWrite events state =
+trial_by width gate_driver antenna_driver inplace gate_exponent antenna_exponent gate_read gate_write antenna_read antenna_write events state =
     of_trial
-    (trial_of (width_bits width) (board_of width gateDriver inplace gate_exponent) (board_of width antennaDriver (inplace / 2) antenna_exponent)
-    gate_read gateWrite antenna_read antennaWrite events)
+    (trial_of (width_bits width) (board_of width gate_driver inplace gate_exponent) (board_of width antenna_driver (inplace / 2) antenna_exponent)
+    gate_read gate_write antenna_read antenna_write events)
     state

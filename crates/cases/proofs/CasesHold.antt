@@ -19,6 +19,8 @@ same_equal : (xs ys : List ℕ) → T (same xs ys) → xs ≡ ys
 same_equal [] [] h = refl
 same_equal (x ∷ xs) (y ∷ ys) h =
     let b = and_yes (eqb x y) (same xs ys) h in ap₂ (λ (z : ℕ) (l : List ℕ). z ∷ l) (eqb→eq x y b.0) (same_equal xs ys b.1)
+same_equal (x ∷ xs) [] h = elim h [ ]
+same_equal [] (y ∷ ys) h = elim h [ ]
 
 passed_hold : (cs : List Case) → T (passed cs) → Hold cs
 passed_hold [] h = tt

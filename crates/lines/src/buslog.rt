@@ -3,7 +3,7 @@ ghost use Rattle.std.specs.Prelude.{◌≤◌, min, ◌≡◌, length};
 ghost use Rattle.std.proofs.Math.Option.{none};
 ghost use Rattle.sequences.specs.Driver.{start_driver, with_order};
 ghost use Rattle.transfers.specs.Transfers.{exchange_separate};
-ghost use Rattle.lines.specs.Buslog.{zeros, listing, exchanged, answer, buslog as buslogOf, Printed};
+ghost use Rattle.lines.specs.Buslog.{zeros, listing, exchanged, answer, buslog as buslog_of, Printed};
 ghost use Rattle.lines.specs.Parse.{Sound};
 
 use crate::list::{run_u8, run_u16, run_u32};
@@ -84,7 +84,7 @@ fn list(header: Header, reads: usize, write: &[u32], script: &[u32], out: &mut [
 
 // What `buslog` prints for a text, over the front of a buffer; how long it is.
 pub fn buslog(input: &[u8], out: &mut [u8; OUTPUT]) -> usize
-    ensures { Printed (buslogOf input.now) out.old out.new result }
+    ensures { Printed (buslog_of input.now) out.old out.new result }
 {
     if INPUT < input.len() {
         return bad(out);

@@ -1,7 +1,7 @@
 // The input: numbers, lines, and the task that they ask for.
 ghost use Rattle.std.specs.Prelude.{◌+◌, ◌<◌, ◌≤◌, [], ◌∷◌, ◌≡◌, leb, length, drop};
-ghost use Rattle.lines.specs.Text.{space, split, bind, only, same as sameOf, digit as digitOf, digit_in, up_to, numeral};
-ghost use Rattle.lines.specs.Grammar.{small, count as count_of, element, width_of, order_of, header as headerOf};
+ghost use Rattle.lines.specs.Text.{space, split, bind, only, same as same_of, digit as digit_of, digit_in, up_to, numeral};
+ghost use Rattle.lines.specs.Grammar.{small, count as count_of, element, width_of, order_of, header as header_of};
 ghost use Rattle.lines.specs.Grammar.{asked_with, asked as asked_of, task};
 ghost use Rattle.lines.specs.Parse.{number_answer, order_answer, header_answer, LineRead, Answers};
 
@@ -49,7 +49,7 @@ pub(crate) enum Parsed {
 }
 
 fn digit(byte: u8) -> Number
-    ensures { number_answer result ≡ digitOf byte }
+    ensures { number_answer result ≡ digit_of byte }
 {
     if byte < 48 {
         return Number::Bad;
@@ -170,7 +170,7 @@ fn read_elements(k: usize, most: usize, line: &[u8], out: &mut [u32]) -> Number
 }
 
 fn same(a: &[u8], b: &[u8]) -> bool
-    ensures { result ≡ sameOf a.now b.now }
+    ensures { result ≡ same_of a.now b.now }
 {
     if a.len() < b.len() {
         return false;
@@ -233,7 +233,7 @@ fn read_order(field: &[u8]) -> Order
 
 // The three fields of the first line.
 fn read_header(width: &[u8], order: &[u8], budget: &[u8]) -> First
-    ensures { header_answer result ≡ headerOf (width.now ∷ order.now ∷ budget.now ∷ []) }
+    ensures { header_answer result ≡ header_of (width.now ∷ order.now ∷ budget.now ∷ []) }
 {
     match read_width(width) {
         Number::Bad => First::Refused,
@@ -253,7 +253,7 @@ fn read_header(width: &[u8], order: &[u8], budget: &[u8]) -> First
 
 // The first line.
 fn read_first(line: &[u8]) -> First
-    ensures { header_answer result ≡ headerOf (split space line.now) }
+    ensures { header_answer result ≡ header_of (split space line.now) }
 {
     let a = up_to(line, 0, 32);
     if line.len() <= a {

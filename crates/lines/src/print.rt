@@ -1,11 +1,11 @@
 // The listing, put into a buffer from a place on. Each function answers the place after what it put.
 ghost use Rattle.std.specs.Prelude.{◌+◌, ◌*◌, ◌<◌, ◌≤◌, [], ◌∷◌, ◌≡◌, length, take};
-ghost use Rattle.lines.specs.Text.{glyph as glyphOf, digits as digitsOf, places as places_of, decimal as decimalOf, written};
+ghost use Rattle.lines.specs.Text.{glyph as glyph_of, digits as digits_of, places as places_of, decimal as decimal_of, written};
 ghost use Rattle.lines.specs.Listing.{kind as kind_of, access_line, access_lines, element_line, element_lines, result_line};
 
 fn glyph(digit: u32) -> u8
     requires { digit < 16 }
-    ensures { result ≡ glyphOf digit }
+    ensures { result ≡ glyph_of digit }
 {
     if digit < 10 {
         48 + digit as u8
@@ -25,7 +25,7 @@ pub(crate) fn put(out: &mut [u8], at: usize, byte: u8) -> usize
 // The last `k` digits of a number.
 fn digits(out: &mut [u8], at: usize, base: u32, k: usize, n: u32) -> usize
     requires { (0 < base) × (base ≤ 16) × (at + k ≤ length out.old) }
-    ensures { (result ≡ at + k) × (out.new ≡ written out.old at (digitsOf base k n)) }
+    ensures { (result ≡ at + k) × (out.new ≡ written out.old at (digits_of base k n)) }
 {
     let mut left = k;
     let mut rest = n;
@@ -58,8 +58,8 @@ fn places(n: u32) -> usize
 fn decimal(out: &mut [u8], at: usize, n: u32) -> usize
     requires { at + 5 ≤ length out.old }
     ensures { (result ≤ at + 5)
-        × (result ≡ at + length (decimalOf n))
-        × (out.new ≡ written out.old at (decimalOf n)) }
+        × (result ≡ at + length (decimal_of n))
+        × (out.new ≡ written out.old at (decimal_of n)) }
 {
     digits(out, at, 10, places(n), n)
 }

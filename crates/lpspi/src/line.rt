@@ -1,8 +1,7 @@
 // A line as numbers: behind the call's name stand its arguments, and then the lists, each behind its name.
 //
 // One array has them all: how many numbers each list has, whether the line names it, and the lists, each at its place.
-ghost use Rattle.std.specs.Prelude.{◌≤◌};
-ghost use Rattle.io.specs.Counts.{IsPrefixLen};
+ghost use Rattle.std.specs.Prelude.{◌≡◌, ◌≤◌, length, take};
 
 use crate::text;
 use sequences::driver::Lpspi;
@@ -110,7 +109,8 @@ pub(crate) fn budget(numbers: &[u32]) -> usize {
 
 // The length of the log: what the budget takes, where the line names none.
 pub(crate) fn log(numbers: &[u32], log: &[u32]) -> usize
-    ensures { IsPrefixLen result log.now }
+    ensures fits { result ≤ length log.now }
+    ensures part { result ≡ length (take result log.now) }
 {
     if has(numbers, LOG) {
         return least(number(numbers, LOG, 0) as usize, log.len());
@@ -120,7 +120,8 @@ pub(crate) fn log(numbers: &[u32], log: &[u32]) -> usize
 
 // A list put into an array, and its length.
 pub(crate) fn bytes(numbers: &[u32], list: usize, out: &mut [u8]) -> usize
-    ensures { IsPrefixLen result out.new }
+    ensures fits { result ≤ length out.new }
+    ensures part { result ≡ length (take result out.new) }
 {
     for i in 0..out.len() {
         out[i] = (number(numbers, list, i) % 0x100) as u8;
@@ -129,7 +130,8 @@ pub(crate) fn bytes(numbers: &[u32], list: usize, out: &mut [u8]) -> usize
 }
 
 pub(crate) fn halves(numbers: &[u32], list: usize, out: &mut [u16]) -> usize
-    ensures { IsPrefixLen result out.new }
+    ensures fits { result ≤ length out.new }
+    ensures part { result ≡ length (take result out.new) }
 {
     for i in 0..out.len() {
         out[i] = (number(numbers, list, i) % 0x1_0000) as u16;
@@ -138,7 +140,8 @@ pub(crate) fn halves(numbers: &[u32], list: usize, out: &mut [u16]) -> usize
 }
 
 pub(crate) fn words(numbers: &[u32], list: usize, out: &mut [u32]) -> usize
-    ensures { IsPrefixLen result out.new }
+    ensures fits { result ≤ length out.new }
+    ensures part { result ≡ length (take result out.new) }
 {
     for i in 0..out.len() {
         out[i] = number(numbers, list, i);

@@ -1,24 +1,24 @@
 // What is printed: digits in capitals, and accesses as document 01's `buslog` prints them.
-use libc::STDOUT_FILENO;
+use std::io;
 
-pub(crate) fn text(bytes: &[u8]) {
-    io::write_all(STDOUT_FILENO, bytes);
+pub(crate) fn text(out: &impl Print, bytes: &[u8]) -> io::Result<()> {
+    out.write_all(bytes)
 }
 
-pub(crate) fn decimal(n: u64) {
-    io::print_decimal(STDOUT_FILENO, n);
+pub(crate) fn decimal(out: &impl Print, n: u64) -> io::Result<()> {
+    out.print(n)
 }
 
 // A decimal number behind a space.
-pub(crate) fn next_decimal(n: u64) {
-    text(b" ");
-    decimal(n);
+pub(crate) fn next_decimal(out: &impl Print, n: u64) -> io::Result<()> {
+    text(out, b" ")?;
+    decimal(out, n)
 }
 
 // The number of a refusal.
-pub(crate) fn refused(number: u64) {
-    decimal(number);
-    text(b"\n");
+pub(crate) fn refused(out: &impl Print, number: u64) -> io::Result<()> {
+    decimal(out, number)?;
+    text(out, b"\n")
 }
 
 // A hexadecimal digit, in capitals.
@@ -27,95 +27,96 @@ fn digit(n: u32) -> u8 {
     if d < 10 { 48 + d } else { 55 + d }
 }
 
-pub(crate) fn two_digits(n: u32) {
+pub(crate) fn two_digits(out: &impl Print, n: u32) -> io::Result<()> {
     let digits = [digit(n / 0x10), digit(n)];
-    text(&digits);
+    text(out, &digits)
 }
 
-pub(crate) fn four_digits(n: u32) {
-    two_digits(n / 0x100);
-    two_digits(n);
+pub(crate) fn four_digits(out: &impl Print, n: u32) -> io::Result<()> {
+    two_digits(out, n / 0x100)?;
+    two_digits(out, n)
 }
 
-pub(crate) fn eight_digits(n: u32) {
-    four_digits(n / 0x1_0000);
-    four_digits(n);
+pub(crate) fn eight_digits(out: &impl Print, n: u32) -> io::Result<()> {
+    four_digits(out, n / 0x1_0000)?;
+    four_digits(out, n)
 }
 
-fn next_byte(b: u8) {
-    text(b" ");
-    two_digits(b as u32);
+fn next_byte(out: &impl Print, b: u8) -> io::Result<()> {
+    text(out, b" ")?;
+    two_digits(out, b as u32)
 }
 
-fn next_half(h: u16) {
-    text(b" ");
-    four_digits(h as u32);
+fn next_half(out: &impl Print, h: u16) -> io::Result<()> {
+    text(out, b" ")?;
+    four_digits(out, h as u32)
 }
 
-fn next_word(w: u32) {
-    text(b" ");
-    eight_digits(w);
+fn next_word(out: &impl Print, w: u32) -> io::Result<()> {
+    text(out, b" ")?;
+    eight_digits(out, w)
 }
 
-pub(crate) fn word_line(w: u32) {
-    eight_digits(w);
-    text(b"\n");
+pub(crate) fn word_line(out: &impl Print, w: u32) -> io::Result<()> {
+    eight_digits(out, w)?;
+    text(out, b"\n")
 }
 
-pub(crate) fn named_word(name: &[u8], w: u32) {
-    text(name);
-    word_line(w);
+pub(crate) fn named_word(out: &impl Print, name: &[u8], w: u32) -> io::Result<()> {
+    text(out, name)?;
+    word_line(out, w)
 }
 
 // A list behind its name; nothing where it is empty.
-pub(crate) fn bytes(name: &[u8], list: &[u8]) {
+pub(crate) fn bytes(out: &impl Print, name: &[u8], list: &[u8]) -> io::Result<()> {
     if list.len() == 0 {
-        return;
+        return Ok(());
     }
-    text(name);
+    text(out, name)?;
     for i in 0..list.len() {
-        next_byte(list[i]);
+        next_byte(out, list[i])?;
     }
-    text(b"\n");
+    text(out, b"\n")
 }
 
-pub(crate) fn halves(name: &[u8], list: &[u16]) {
+pub(crate) fn halves(out: &impl Print, name: &[u8], list: &[u16]) -> io::Result<()> {
     if list.len() == 0 {
-        return;
+        return Ok(());
     }
-    text(name);
+    text(out, name)?;
     for i in 0..list.len() {
-        next_half(list[i]);
+        next_half(out, list[i])?;
     }
-    text(b"\n");
+    text(out, b"\n")
 }
 
-pub(crate) fn words(name: &[u8], list: &[u32]) {
+pub(crate) fn words(out: &impl Print, name: &[u8], list: &[u32]) -> io::Result<()> {
     if list.len() == 0 {
-        return;
+        return Ok(());
     }
-    text(name);
+    text(out, name)?;
     for i in 0..list.len() {
-        next_word(list[i]);
+        next_word(out, list[i])?;
     }
-    text(b"\n");
+    text(out, b"\n")
 }
 
-fn access(at: u32, value: u32) {
+fn access(out: &impl Print, at: u32, value: u32) -> io::Result<()> {
     if at < 0x1000 {
-        text(b"R ");
+        text(out, b"R ")?;
     } else {
-        text(b"W ");
+        text(out, b"W ")?;
     }
-    two_digits(at);
-    text(b" ");
-    word_line(value);
+    two_digits(out, at)?;
+    text(out, b" ")?;
+    word_line(out, value)
 }
 
-pub(crate) fn accesses(log: &[u32], made: usize) {
+pub(crate) fn accesses(out: &impl Print, log: &[u32], made: usize) -> io::Result<()> {
     for i in 0..made {
         if i < log.len() / 2 {
-            access(log[2 * i], log[2 * i + 1]);
+            access(out, log[2 * i], log[2 * i + 1])?;
         }
     }
+    Ok(())
 }

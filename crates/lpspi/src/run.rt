@@ -8,6 +8,7 @@ use sequences::access::Ending;
 use sequences::driver::Lpspi;
 use sequences::settings::{PcsPolarity, SamplePoint};
 use sequences::status::Status;
+use std::io;
 use words::clock::ClockConfigs;
 use words::transaction::{Direction, LpspiError, TransactionResult};
 
@@ -70,65 +71,103 @@ fn enqueue(numbers: &[u32], script: &[u32], log: &mut [u32]) -> RunResult {
 }
 
 // Words and commands, in and out.
-fn data(call: u32, numbers: &[u32], script: &[u32], log: &mut [u32]) {
+fn data(
+    out: &impl Print,
+    call: u32,
+    numbers: &[u32],
+    script: &[u32],
+    log: &mut [u32],
+) -> io::Result<()> {
     let driver = line::driver(numbers);
     let budget = line::budget(numbers);
     if call == 0 {
-        return result::data(data::read_data(driver, budget, script, log), &log[..]);
+        return result::data(out, data::read_data(driver, budget, script, log), &log[..]);
     }
     if call == 2 {
-        return result::plain(enqueue(numbers, script, log), &log[..]);
+        return result::plain(out, enqueue(numbers, script, log), &log[..]);
     }
     let word = line::argument(numbers, 0);
     result::plain(
+        out,
         data::enqueue_data(driver, word, budget, script, log),
         &log[..],
-    );
+    )
 }
 
 // Status and enabled state.
-fn status(call: u32, numbers: &[u32], script: &[u32], log: &mut [u32]) {
+fn status(
+    out: &impl Print,
+    call: u32,
+    numbers: &[u32],
+    script: &[u32],
+    log: &mut [u32],
+) -> io::Result<()> {
     let driver = line::driver(numbers);
     let budget = line::budget(numbers);
     let first = line::argument(numbers, 0);
     if call == 0 {
-        return result::status(status::status(driver, budget, script, log), &log[..]);
+        return result::status(out, status::status(driver, budget, script, log), &log[..]);
     }
     if call == 1 {
         let flags = Status::from_bits_truncate(first);
         return result::plain(
+            out,
             status::clear_status(driver, flags, budget, script, log),
             &log[..],
         );
     }
     if call == 2 {
-        return result::enabled(status::is_enabled(driver, budget, script, log), &log[..]);
+        return result::enabled(
+            out,
+            status::is_enabled(driver, budget, script, log),
+            &log[..],
+        );
     }
     result::plain(
+        out,
         status::set_enable(driver, first == 1, budget, script, log),
         &log[..],
-    );
+    )
 }
 
 // Watermarks and FIFOs.
-fn fifo(call: u32, numbers: &[u32], script: &[u32], log: &mut [u32]) {
+fn fifo(
+    out: &impl Print,
+    call: u32,
+    numbers: &[u32],
+    script: &[u32],
+    log: &mut [u32],
+) -> io::Result<()> {
     let driver = line::driver(numbers);
     let budget = line::budget(numbers);
     let way = direction(line::argument(numbers, 0));
     if call == 0 {
-        return result::level(fifo::watermark(driver, way, budget, script, log), &log[..]);
+        return result::level(
+            out,
+            fifo::watermark(driver, way, budget, script, log),
+            &log[..],
+        );
     }
     if call == 1 {
         let level = byte(numbers, 1);
         return result::level(
+            out,
             fifo::set_watermark(driver, way, level, budget, script, log),
             &log[..],
         );
     }
     if call == 2 {
-        return result::plain(fifo::clear_fifo(driver, way, budget, script, log), &log[..]);
+        return result::plain(
+            out,
+            fifo::clear_fifo(driver, way, budget, script, log),
+            &log[..],
+        );
     }
-    result::fifo(fifo::fifo_status(driver, budget, script, log), &log[..]);
+    result::fifo(
+        out,
+        fifo::fifo_status(driver, budget, script, log),
+        &log[..],
+    )
 }
 
 // Settings that are changed while disabled.
@@ -153,32 +192,47 @@ fn set(call: u32, numbers: &[u32], script: &[u32], log: &mut [u32]) -> RunResult
     disabled::set_chip_select_polarity(driver, pcs, polarity(second), budget, script, log)
 }
 
-fn of_group(group: u32, call: u32, numbers: &[u32], script: &[u32], log: &mut [u32]) {
+fn of_group(
+    out: &impl Print,
+    group: u32,
+    call: u32,
+    numbers: &[u32],
+    script: &[u32],
+    log: &mut [u32],
+) -> io::Result<()> {
     match group {
-        0x30 => width_u8::run(call, numbers, script, log),
-        0x31 => width_u16::run(call, numbers, script, log),
-        0x32 => width_u32::run(call, numbers, script, log),
-        0x33 => result::plain(reset(call, numbers, script, log), &log[..]),
-        0x34 => data(call, numbers, script, log),
-        0x35 => status(call, numbers, script, log),
-        0x36 => fifo(call, numbers, script, log),
-        _ => result::plain(set(call, numbers, script, log), &log[..]),
+        0x30 => width_u8::run(out, call, numbers, script, log),
+        0x31 => width_u16::run(out, call, numbers, script, log),
+        0x32 => width_u32::run(out, call, numbers, script, log),
+        0x33 => result::plain(out, reset(call, numbers, script, log), &log[..]),
+        0x34 => data(out, call, numbers, script, log),
+        0x35 => status(out, call, numbers, script, log),
+        0x36 => fifo(out, call, numbers, script, log),
+        _ => result::plain(out, set(call, numbers, script, log), &log[..]),
     }
 }
 
 // A call; and the log as it stands in memory, where the line asks for it.
-fn run_with(group: u32, call: u32, numbers: &[u32], script: &[u32], log: &mut [u32]) {
-    of_group(group, call, numbers, script, log);
+fn run_with(
+    out: &impl Print,
+    group: u32,
+    call: u32,
+    numbers: &[u32],
+    script: &[u32],
+    log: &mut [u32],
+) -> io::Result<()> {
+    of_group(out, group, call, numbers, script, log)?;
     if line::has(numbers, line::RAW) {
-        print::words(b"log", &log[..]);
+        return print::words(out, b"log", &log[..]);
     }
+    Ok(())
 }
 
 // A call, with room for script and log.
-pub(crate) fn run(group: u32, call: u32, numbers: &[u32]) {
+pub(crate) fn run(out: &impl Print, group: u32, call: u32, numbers: &[u32]) -> io::Result<()> {
     let mut script = [0u32; 8_000];
     let n = line::words(numbers, line::SCRIPT, &mut script);
     let mut log = [0xAAAA_AAAAu32; 16_002];
     let m = line::log(numbers, &log);
-    run_with(group, call, numbers, &script[..n], &mut log[..m]);
+    run_with(out, group, call, numbers, &script[..n], &mut log[..m])
 }

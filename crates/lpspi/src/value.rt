@@ -2,6 +2,7 @@
 use crate::{line, print, result, width_u8, width_u16, width_u32};
 use manual::{Field, Register, Tcr};
 use sequences::status::Status;
+use std::io;
 use words::clock::ClockConfigs;
 use words::transaction::{LpspiError, Transaction, TransactionResult};
 
@@ -49,47 +50,47 @@ fn with_settings(numbers: &[u32]) -> TransactionResult {
 }
 
 // Where TCR is, its PCS in a word, and the word with another.
-fn show_pcs(word: u32, pcs: u32) {
-    print::two_digits(Register::TCR.offset());
-    print::next_decimal(Field::Tcr(Tcr::PCS).read(word) as u64);
-    print::text(b" ");
-    print::word_line(Field::Tcr(Tcr::PCS).set(pcs, word));
+fn show_pcs(out: &impl Print, word: u32, pcs: u32) -> io::Result<()> {
+    print::two_digits(out, Register::TCR.offset())?;
+    print::next_decimal(out, Field::Tcr(Tcr::PCS).read(word) as u64)?;
+    print::text(out, b" ")?;
+    print::word_line(out, Field::Tcr(Tcr::PCS).set(pcs, word))
 }
 
 // The flags of SR.
-fn show_flags() {
-    print::named_word(b"BUSY ", Status::BUSY.bits());
-    print::named_word(b"DATA_MATCH ", Status::DATA_MATCH.bits());
-    print::named_word(b"RECEIVE_ERROR ", Status::RECEIVE_ERROR.bits());
-    print::named_word(b"TRANSMIT_ERROR ", Status::TRANSMIT_ERROR.bits());
-    print::named_word(b"TRANSFER_COMPLETE ", Status::TRANSFER_COMPLETE.bits());
-    print::named_word(b"FRAME_COMPLETE ", Status::FRAME_COMPLETE.bits());
-    print::named_word(b"WORD_COMPLETE ", Status::WORD_COMPLETE.bits());
-    print::named_word(b"RECEIVE_DATA ", Status::RECEIVE_DATA.bits());
-    print::named_word(b"TRANSMIT_DATA ", Status::TRANSMIT_DATA.bits());
+fn show_flags(out: &impl Print) -> io::Result<()> {
+    print::named_word(out, b"BUSY ", Status::BUSY.bits())?;
+    print::named_word(out, b"DATA_MATCH ", Status::DATA_MATCH.bits())?;
+    print::named_word(out, b"RECEIVE_ERROR ", Status::RECEIVE_ERROR.bits())?;
+    print::named_word(out, b"TRANSMIT_ERROR ", Status::TRANSMIT_ERROR.bits())?;
+    print::named_word(out, b"TRANSFER_COMPLETE ", Status::TRANSFER_COMPLETE.bits())?;
+    print::named_word(out, b"FRAME_COMPLETE ", Status::FRAME_COMPLETE.bits())?;
+    print::named_word(out, b"WORD_COMPLETE ", Status::WORD_COMPLETE.bits())?;
+    print::named_word(out, b"RECEIVE_DATA ", Status::RECEIVE_DATA.bits())?;
+    print::named_word(out, b"TRANSMIT_DATA ", Status::TRANSMIT_DATA.bits())?;
     let both = Status::TRANSMIT_ERROR.union(Status::RECEIVE_ERROR);
-    print::named_word(b"both errors ", both.bits());
+    print::named_word(out, b"both errors ", both.bits())
 }
 
 // Commands, clocks and fields, by their number among these.
-fn other(call: u32, numbers: &[u32]) {
+fn other(out: &impl Print, call: u32, numbers: &[u32]) -> io::Result<()> {
     let first = line::argument(numbers, 0);
     let second = line::argument(numbers, 1);
     match call {
-        0 => result::command(frame(first)),
-        1 => result::command(command(numbers)),
-        2 => result::command(with_settings(numbers)),
-        3 => result::clock(first, ClockConfigs::from_hz(first, second)),
-        4 => show_pcs(first, second),
-        _ => show_flags(),
+        0 => result::command(out, frame(first)),
+        1 => result::command(out, command(numbers)),
+        2 => result::command(out, with_settings(numbers)),
+        3 => result::clock(out, first, ClockConfigs::from_hz(first, second)),
+        4 => show_pcs(out, first, second),
+        _ => show_flags(out),
     }
 }
 
-pub(crate) fn value(group: u32, call: u32, numbers: &[u32]) {
+pub(crate) fn value(out: &impl Print, group: u32, call: u32, numbers: &[u32]) -> io::Result<()> {
     match group {
-        0x61 => width_u8::value(call, numbers),
-        0x62 => width_u16::value(call, numbers),
-        0x63 => width_u32::value(call, numbers),
-        _ => other(call, numbers),
+        0x61 => width_u8::value(out, call, numbers),
+        0x62 => width_u16::value(out, call, numbers),
+        0x63 => width_u32::value(out, call, numbers),
+        _ => other(out, call, numbers),
     }
 }

@@ -2,6 +2,7 @@
 use crate::{line, print, result};
 use runs::result::RunResult;
 use sequences::driver::Lpspi;
+use std::io;
 use transfers::{exchange, exchange_separate, read_no_write, write_no_read};
 use words::order::BitOrder;
 use words::transaction::Transaction;
@@ -9,30 +10,54 @@ use words::width::Width;
 use words::{buffer, longer, pack, unpack};
 
 // The word of the write buffer, the command of a frame of it, or the longer buffer.
-fn of_elements<'a>(call: u32, order: BitOrder, read: &'a [u32], write: &'a [u32]) {
+fn of_elements<'a>(
+    out: &impl Print,
+    call: u32,
+    order: BitOrder,
+    read: &'a [u32],
+    write: &'a [u32],
+) -> io::Result<()> {
     match call {
-        0 => result::packed(pack::pack_u32(order, write)),
-        4 => print::words(b"longer", longer::longer_u32(read, write)),
-        _ => result::command(Transaction::new_u32s(write)),
+        0 => result::packed(out, pack::pack_u32(order, write)),
+        4 => print::words(out, b"longer", longer::longer_u32(read, write)),
+        _ => result::command(out, Transaction::new_u32s(write)),
     }
 }
 
-fn pack_words(order: BitOrder, total: usize, write: &[u32], read: &mut [u32]) {
+fn pack_words(
+    out: &impl Print,
+    order: BitOrder,
+    total: usize,
+    write: &[u32],
+    read: &mut [u32],
+) -> io::Result<()> {
     buffer::pack_words_u32(order, write, total, read);
-    print::words(b"read", &read[..]);
+    print::words(out, b"read", &read[..])
 }
 
-fn unpack_words(order: BitOrder, total: usize, write: &[u32], read: &mut [u32]) {
+fn unpack_words(
+    out: &impl Print,
+    order: BitOrder,
+    total: usize,
+    write: &[u32],
+    read: &mut [u32],
+) -> io::Result<()> {
     buffer::unpack_words_u32(order, write, total, read);
-    print::words(b"read", &read[..]);
+    print::words(out, b"read", &read[..])
 }
 
-fn unpack_word(order: BitOrder, count: usize, word: u32, read: &mut [u32]) {
-    result::unpacked(unpack::unpack_u32(word, order, count, read));
-    print::words(b"read", &read[..]);
+fn unpack_word(
+    out: &impl Print,
+    order: BitOrder,
+    count: usize,
+    word: u32,
+    read: &mut [u32],
+) -> io::Result<()> {
+    result::unpacked(out, unpack::unpack_u32(word, order, count, read))?;
+    print::words(out, b"read", &read[..])
 }
 
-pub(crate) fn value(call: u32, numbers: &[u32]) {
+pub(crate) fn value(out: &impl Print, call: u32, numbers: &[u32]) -> io::Result<()> {
     let order = line::order(line::argument(numbers, 0));
     let total = line::argument(numbers, 1) as usize;
     let mut read = [0u32; 520];
@@ -43,15 +68,21 @@ pub(crate) fn value(call: u32, numbers: &[u32]) {
     match call {
         1 => {
             let n = line::words(numbers, line::READ, &mut words);
-            pack_words(order, total, &write[..writes], &mut words[..n]);
+            pack_words(out, order, total, &write[..writes], &mut words[..n])
         }
-        2 => unpack_word(order, total, line::argument(numbers, 2), &mut read[..reads]),
+        2 => unpack_word(
+            out,
+            order,
+            total,
+            line::argument(numbers, 2),
+            &mut read[..reads],
+        ),
         3 => {
             let n = line::words(numbers, line::WRITE, &mut words);
-            unpack_words(order, total, &words[..n], &mut read[..reads]);
+            unpack_words(out, order, total, &words[..n], &mut read[..reads])
         }
-        6 => result::width(Width::U32, line::argument(numbers, 0) as usize),
-        _ => of_elements(call, order, &read[..reads], &write[..writes]),
+        6 => result::width(out, Width::U32, line::argument(numbers, 0) as usize),
+        _ => of_elements(out, call, order, &read[..reads], &write[..writes]),
     }
 }
 
@@ -73,13 +104,14 @@ fn transfer(
 }
 
 fn run_with(
+    out: &impl Print,
     call: u32,
     numbers: &[u32],
     read: &mut [u32],
     write: &[u32],
     script: &[u32],
     log: &mut [u32],
-) {
+) -> io::Result<()> {
     let driver = line::driver(numbers);
     let r = transfer(
         call,
@@ -90,15 +122,21 @@ fn run_with(
         script,
         log,
     );
-    print::accesses(&log[..], r.accesses);
-    print::words(b"read", &read[..]);
-    result::show(r);
+    print::accesses(out, &log[..], r.accesses)?;
+    print::words(out, b"read", &read[..])?;
+    result::show(out, r)
 }
 
-pub(crate) fn run(call: u32, numbers: &[u32], script: &[u32], log: &mut [u32]) {
+pub(crate) fn run(
+    out: &impl Print,
+    call: u32,
+    numbers: &[u32],
+    script: &[u32],
+    log: &mut [u32],
+) -> io::Result<()> {
     let mut read = [0u32; 520];
     let mut write = [0u32; 520];
     let n = line::words(numbers, line::READ, &mut read);
     let m = line::words(numbers, line::WRITE, &mut write);
-    run_with(call, numbers, &mut read[..n], &write[..m], script, log);
+    run_with(out, call, numbers, &mut read[..n], &write[..m], script, log)
 }

@@ -7,7 +7,7 @@ ghost use Rattle.manual.specs.Manual.{read_field};
 ghost use Rattle.sequences.specs.Sequence.{too_deep};
 ghost use Rattle.runs.specs.Run.{left, put};
 ghost use Rattle.words.specs.declared.transaction.Direction.TheVariants.{Tx, Rx};
-ghost use Rattle.machine.specs.Poll.{failed as failedBy};
+ghost use Rattle.machine.specs.Poll.{failed as failed_by};
 ghost use Rattle.runs.specs.Flush.{first_error, flush_states, flush_loop, flush_run, flush_left};
 
 use crate::log::{limits, put};
@@ -44,7 +44,7 @@ fn read(script: &[u32], log: &mut [u32], made: usize, at: u32) -> u32
 }
 
 fn has_error(status: u32) -> bool
-    ensures { result ≡ (failedBy Rx status || failedBy Tx status) }
+    ensures { result ≡ (failed_by Rx status || failed_by Tx status) }
 {
     if failed(Direction::Rx, status) {
         return true;

@@ -13,28 +13,30 @@
 // 1 on. Lines missing at the end count as empty. An input of more than 262,144 bytes prints `bad`, and none of its trials is run.
 // docs/BUS.md walks through it.
 #![tactic(auto)]
-ghost use Rattle.std.specs.Prelude.{◌<◌, ◌≤◌, max, ◌≡◌, length};
+
+ghost use Rattle.std.specs.Prelude.{◌<◌, ◌≤◌, max, ◌≡◌, length, IfOk};
 
 use agreement::board::Board;
 use bus::fifo::Fifo;
 use bus::port::Port;
 use bus::station::Station;
 use bus::trial::{EndState, Outcome, trial_u8, trial_u16, trial_u32};
-use libc::{STDIN_FILENO, STDOUT_FILENO};
 use sequences::access::Access;
 use sequences::driver::Lpspi;
+use std::io;
+use std::io::Read;
 use words::order::BitOrder;
 use words::width::Width;
 
 // The longest input.
 const INPUT: usize = 262_144;
 
-fn text(bytes: &[u8]) {
-    io::write_all(STDOUT_FILENO, bytes);
+fn text(out: &impl Print, bytes: &[u8]) -> io::Result<()> {
+    out.write_all(bytes)
 }
 
-fn decimal(n: u64) {
-    io::print_decimal(STDOUT_FILENO, n);
+fn decimal(out: &impl Print, n: u64) -> io::Result<()> {
+    out.print(n)
 }
 
 // The digits of an element.
@@ -47,141 +49,148 @@ fn digits(width: Width) -> usize {
 }
 
 // An element in the digits of a width, behind a space.
-fn element(width: Width, value: u64) {
-    text(b" ");
-    io::print_hex(STDOUT_FILENO, value, digits(width));
+fn element(out: &impl Print, width: Width, value: u64) -> io::Result<()> {
+    text(out, b" ")?;
+    let n = digits(width);
+    print!(out; "{value:0n$x}")
 }
 
-fn byte(width: Width, value: u8) {
-    element(width, value as u64);
+fn byte(out: &impl Print, width: Width, value: u8) -> io::Result<()> {
+    element(out, width, value as u64)
 }
 
-fn half(width: Width, value: u16) {
-    element(width, value as u64);
+fn half(out: &impl Print, width: Width, value: u16) -> io::Result<()> {
+    element(out, width, value as u64)
 }
 
-fn word(width: Width, value: u32) {
-    element(width, value as u64);
+fn word(out: &impl Print, width: Width, value: u32) -> io::Result<()> {
+    element(out, width, value as u64)
 }
 
 // A read buffer, in the digits of the board's width.
-fn bytes(width: Width, read: &[u8]) {
+fn bytes(out: &impl Print, width: Width, read: &[u8]) -> io::Result<()> {
     for i in 0..read.len() {
-        byte(width, read[i]);
+        byte(out, width, read[i])?;
     }
+    Ok(())
 }
 
-fn halves(width: Width, read: &[u16]) {
+fn halves(out: &impl Print, width: Width, read: &[u16]) -> io::Result<()> {
     for i in 0..read.len() {
-        half(width, read[i]);
+        half(out, width, read[i])?;
     }
+    Ok(())
 }
 
-fn words(width: Width, read: &[u32]) {
+fn words(out: &impl Print, width: Width, read: &[u32]) -> io::Result<()> {
     for i in 0..read.len() {
-        word(width, read[i]);
+        word(out, width, read[i])?;
     }
+    Ok(())
 }
 
 // An answer, or that there is none yet.
-fn answer(access: Access) {
+fn answer(out: &impl Print, access: Access) -> io::Result<()> {
     match access {
-        Access::Read(_) => text(b" -"),
-        Access::Write(_, _) => text(b" -"),
-        Access::Send(_) => text(b" -"),
-        Access::Receive(_) => text(b" -"),
+        Access::Read(_) => text(out, b" -"),
+        Access::Write(_, _) => text(out, b" -"),
+        Access::Send(_) => text(out, b" -"),
+        Access::Receive(_) => text(out, b" -"),
         Access::Done(e) => {
-            text(b" ");
-            decimal(e.number() as u64);
+            text(out, b" ")?;
+            decimal(out, e.number() as u64)
         }
     }
 }
 
-fn flag(name: &[u8], on: bool) {
+fn flag(out: &impl Print, name: &[u8], on: bool) -> io::Result<()> {
     if on {
-        text(name);
+        text(out, name)?;
     }
+    Ok(())
 }
 
-fn command() {
-    text(b" command");
+fn command(out: &impl Print) -> io::Result<()> {
+    text(out, b" command")
 }
 
 // The commands of a transmit FIFO, which stand before its words.
-fn commands(n: u32) {
+fn commands(out: &impl Print, n: u32) -> io::Result<()> {
     for _ in 0..n {
-        command();
+        command(out)?;
     }
+    Ok(())
 }
 
-fn queue(fifo: Fifo) {
+fn queue(out: &impl Print, fifo: Fifo) -> io::Result<()> {
     let n = fifo.len();
     for i in 0..n {
-        word(Width::U32, fifo.word(i));
+        word(out, Width::U32, fifo.word(i))?;
     }
+    Ok(())
 }
 
-fn show_answers(station: Station) {
+fn show_answers(out: &impl Print, station: Station) -> io::Result<()> {
     let transfer = station.transfer;
     let flush = station.flush;
-    text(b" transfer");
-    answer(transfer.next());
-    text(b" flush");
-    answer(flush.next());
+    text(out, b" transfer")?;
+    answer(out, transfer.next())?;
+    text(out, b" flush")?;
+    answer(out, flush.next())
 }
 
-fn show_flags(port: Port) {
-    text(b" flags");
-    flag(b" T", port.t);
-    flag(b" R", port.r);
+fn show_flags(out: &impl Print, port: Port) -> io::Result<()> {
+    text(out, b" flags")?;
+    flag(out, b" T", port.t)?;
+    flag(out, b" R", port.r)
 }
 
-fn show_queues(port: Port) {
+fn show_queues(out: &impl Print, port: Port) -> io::Result<()> {
     let transmit = port.transmit;
     let receive = port.receive;
-    text(b" sending");
-    commands(port.commands);
-    queue(transmit);
-    text(b" receiving");
-    queue(receive);
+    text(out, b" sending")?;
+    commands(out, port.commands)?;
+    queue(out, transmit)?;
+    text(out, b" receiving")?;
+    queue(out, receive)
 }
 
-fn show_end(end: EndState) {
+fn show_end(out: &impl Print, end: EndState) -> io::Result<()> {
     let station = end.station;
     let port = station.port;
-    show_answers(station);
-    show_flags(port);
-    show_queues(port);
-    end_line();
+    show_answers(out, station)?;
+    show_flags(out, port)?;
+    show_queues(out, port)?;
+    end_line(out)
 }
 
-fn show_number(number: u32) {
-    text(b"number ");
-    decimal(number as u64);
-    text(b"\n");
+fn show_number(out: &impl Print, number: u32) -> io::Result<()> {
+    text(out, b"number ")?;
+    decimal(out, number as u64)?;
+    text(out, b"\n")
 }
 
 // A board: what it comes to, and the beginning of the line with its read buffer.
-fn show(name: &[u8], end: EndState) {
-    text(name);
-    show_end(end);
-    text(name);
-    text(b" reads");
+fn show(out: &impl Print, name: &[u8], end: EndState) -> io::Result<()> {
+    text(out, name)?;
+    show_end(out, end)?;
+    text(out, name)?;
+    text(out, b" reads")
 }
 
-fn show_gate(outcome: Outcome) {
-    show_number(outcome.number);
+fn show_gate(out: &impl Print, outcome: Outcome) -> io::Result<()> {
+    show_number(out, outcome.number)?;
     let end = outcome.gate;
-    show(b"gate", end);
+    show(out, b"gate", end)
 }
 
-fn show_antenna(outcome: Outcome) {
+fn show_antenna(out: &impl Print, outcome: Outcome) -> io::Result<()> {
     let end = outcome.antenna;
-    show(b"antenna", end);
+    show(out, b"antenna", end)
 }
 
-fn end_line() {
-    text(b"\n");
+fn end_line(out: &impl Print) -> io::Result<()> {
+    text(out, b"\n")
 }
 
 // The place of the next newline, or the end.
@@ -291,6 +300,7 @@ fn read_len(inplace: bool, own: usize, longer: usize) -> usize
 
 // The trial, and what it shows.
 fn run_u8(
+    out: &impl Print,
     gate: Board,
     antenna: Board,
     gate_read: &mut [u8],
@@ -298,7 +308,7 @@ fn run_u8(
     antenna_read: &mut [u8],
     antenna_line: &[u8],
     codes: &[u8],
-) {
+) -> io::Result<()> {
     let outcome = trial_u8(
         gate,
         antenna,
@@ -310,15 +320,16 @@ fn run_u8(
     );
     let gate_width = gate.width;
     let antenna_width = antenna.width;
-    show_gate(outcome);
-    bytes(gate_width, &gate_read[..]);
-    end_line();
-    show_antenna(outcome);
-    bytes(antenna_width, &antenna_read[..]);
-    end_line();
+    show_gate(out, outcome)?;
+    bytes(out, gate_width, &gate_read[..])?;
+    end_line(out)?;
+    show_antenna(out, outcome)?;
+    bytes(out, antenna_width, &antenna_read[..])?;
+    end_line(out)
 }
 
 fn run_u16(
+    out: &impl Print,
     gate: Board,
     antenna: Board,
     gate_read: &mut [u16],
@@ -326,7 +337,7 @@ fn run_u16(
     antenna_read: &mut [u16],
     antenna_line: &[u16],
     codes: &[u8],
-) {
+) -> io::Result<()> {
     let outcome = trial_u16(
         gate,
         antenna,
@@ -338,15 +349,16 @@ fn run_u16(
     );
     let gate_width = gate.width;
     let antenna_width = antenna.width;
-    show_gate(outcome);
-    halves(gate_width, &gate_read[..]);
-    end_line();
-    show_antenna(outcome);
-    halves(antenna_width, &antenna_read[..]);
-    end_line();
+    show_gate(out, outcome)?;
+    halves(out, gate_width, &gate_read[..])?;
+    end_line(out)?;
+    show_antenna(out, outcome)?;
+    halves(out, antenna_width, &antenna_read[..])?;
+    end_line(out)
 }
 
 fn run_u32(
+    out: &impl Print,
     gate: Board,
     antenna: Board,
     gate_read: &mut [u32],
@@ -354,7 +366,7 @@ fn run_u32(
     antenna_read: &mut [u32],
     antenna_line: &[u32],
     codes: &[u8],
-) {
+) -> io::Result<()> {
     let outcome = trial_u32(
         gate,
         antenna,
@@ -366,16 +378,23 @@ fn run_u32(
     );
     let gate_width = gate.width;
     let antenna_width = antenna.width;
-    show_gate(outcome);
-    words(gate_width, &gate_read[..]);
-    end_line();
-    show_antenna(outcome);
-    words(antenna_width, &antenna_read[..]);
-    end_line();
+    show_gate(out, outcome)?;
+    words(out, gate_width, &gate_read[..])?;
+    end_line(out)?;
+    show_antenna(out, outcome)?;
+    words(out, antenna_width, &antenna_read[..])?;
+    end_line(out)
 }
 
 // Buffers for both boards, of the elements that their lines have.
-fn with_u8(gate: Board, antenna: Board, gate_line: &[u8], antenna_line: &[u8], codes: &[u8])
+fn with_u8(
+    out: &impl Print,
+    gate: Board,
+    antenna: Board,
+    gate_line: &[u8],
+    antenna_line: &[u8],
+    codes: &[u8],
+) -> io::Result<()>
     requires { (length gate_line.now ≤ 512) × (length antenna_line.now ≤ 512) }
 {
     let longer = larger(gate_line.len(), antenna_line.len());
@@ -386,6 +405,7 @@ fn with_u8(gate: Board, antenna: Board, gate_line: &[u8], antenna_line: &[u8], c
     fill_u8(gate.inplace, gate_line, &mut gate_read);
     fill_u8(antenna.inplace, antenna_line, &mut antenna_read);
     run_u8(
+        out,
         gate,
         antenna,
         &mut gate_read[..n],
@@ -393,10 +413,17 @@ fn with_u8(gate: Board, antenna: Board, gate_line: &[u8], antenna_line: &[u8], c
         &mut antenna_read[..m],
         antenna_line,
         codes,
-    );
+    )
 }
 
-fn with_u16(gate: Board, antenna: Board, gate_line: &[u8], antenna_line: &[u8], codes: &[u8])
+fn with_u16(
+    out: &impl Print,
+    gate: Board,
+    antenna: Board,
+    gate_line: &[u8],
+    antenna_line: &[u8],
+    codes: &[u8],
+) -> io::Result<()>
     requires { (length gate_line.now ≤ 512) × (length antenna_line.now ≤ 512) }
 {
     let longer = larger(gate_line.len(), antenna_line.len());
@@ -411,6 +438,7 @@ fn with_u16(gate: Board, antenna: Board, gate_line: &[u8], antenna_line: &[u8], 
     fill_u16(true, gate_line, &mut gate_elements);
     fill_u16(true, antenna_line, &mut antenna_elements);
     run_u16(
+        out,
         gate,
         antenna,
         &mut gate_read[..n],
@@ -418,10 +446,17 @@ fn with_u16(gate: Board, antenna: Board, gate_line: &[u8], antenna_line: &[u8], 
         &mut antenna_read[..m],
         &antenna_elements[..antenna_line.len()],
         codes,
-    );
+    )
 }
 
-fn with_u32(gate: Board, antenna: Board, gate_line: &[u8], antenna_line: &[u8], codes: &[u8])
+fn with_u32(
+    out: &impl Print,
+    gate: Board,
+    antenna: Board,
+    gate_line: &[u8],
+    antenna_line: &[u8],
+    codes: &[u8],
+) -> io::Result<()>
     requires { (length gate_line.now ≤ 512) × (length antenna_line.now ≤ 512) }
 {
     let longer = larger(gate_line.len(), antenna_line.len());
@@ -436,6 +471,7 @@ fn with_u32(gate: Board, antenna: Board, gate_line: &[u8], antenna_line: &[u8], 
     fill_u32(true, gate_line, &mut gate_elements);
     fill_u32(true, antenna_line, &mut antenna_elements);
     run_u32(
+        out,
         gate,
         antenna,
         &mut gate_read[..n],
@@ -443,18 +479,25 @@ fn with_u32(gate: Board, antenna: Board, gate_line: &[u8], antenna_line: &[u8], 
         &mut antenna_read[..m],
         &antenna_elements[..antenna_line.len()],
         codes,
-    );
+    )
 }
 
 // The gate's width picks the entry; an antenna of another width is refused there.
-fn with_buffers(gate: Board, antenna: Board, gate_line: &[u8], antenna_line: &[u8], codes: &[u8])
+fn with_buffers(
+    out: &impl Print,
+    gate: Board,
+    antenna: Board,
+    gate_line: &[u8],
+    antenna_line: &[u8],
+    codes: &[u8],
+) -> io::Result<()>
     requires { (length gate_line.now ≤ 512) × (length antenna_line.now ≤ 512) }
 {
     let width = gate.width;
     match width {
-        Width::U8 => with_u8(gate, antenna, gate_line, antenna_line, codes),
-        Width::U16 => with_u16(gate, antenna, gate_line, antenna_line, codes),
-        Width::U32 => with_u32(gate, antenna, gate_line, antenna_line, codes),
+        Width::U8 => with_u8(out, gate, antenna, gate_line, antenna_line, codes),
+        Width::U16 => with_u16(out, gate, antenna, gate_line, antenna_line, codes),
+        Width::U32 => with_u32(out, gate, antenna, gate_line, antenna_line, codes),
     }
 }
 
@@ -566,58 +609,78 @@ fn board_at(header: &[u8], place: usize, bits: u8) -> Board
 }
 
 // The checks of a trial's lines, one after the other, and then the trial; false where a line is bad.
-fn check_lengths(g: Board, a: Board, gate: &[u8], antenna: &[u8], codes: &[u8]) -> bool {
+fn check_lengths(
+    out: &impl Print,
+    g: Board,
+    a: Board,
+    gate: &[u8],
+    antenna: &[u8],
+    codes: &[u8],
+) -> io::Result<bool> {
     if 512 < gate.len() {
-        return false;
+        return Ok(false);
     }
     if 512 < antenna.len() {
-        return false;
+        return Ok(false);
     }
-    with_buffers(g, a, gate, antenna, codes);
-    true
+    with_buffers(out, g, a, gate, antenna, codes)?;
+    Ok(true)
 }
 
-fn check_header(header: &[u8], gate: &[u8], antenna: &[u8], codes: &[u8]) -> bool {
+fn check_header(
+    out: &impl Print,
+    header: &[u8],
+    gate: &[u8],
+    antenna: &[u8],
+    codes: &[u8],
+) -> io::Result<bool> {
     let gate_bits = gate_bits(header);
     let antenna_bits = antenna_bits(header, gate_bits);
     if gate_bits == 0 {
-        return false;
+        return Ok(false);
     }
     if antenna_bits == 0 {
-        return false;
+        return Ok(false);
     }
     if is_header(header) {
         let g = board_at(header, 2, gate_bits);
         let a = board_at(header, 5, antenna_bits);
-        return check_lengths(g, a, gate, antenna, codes);
+        return check_lengths(out, g, a, gate, antenna, codes);
     }
-    false
+    Ok(false)
 }
 
 fn check_events(
+    out: &impl Print,
     header: &[u8],
     gate: &[u8],
     antenna: &[u8],
     letters: &[u8],
     codes: &mut [u8],
-) -> bool {
+) -> io::Result<bool> {
     if are_events(letters) {
         if codes.len() < letters.len() {
-            return false;
+            return Ok(false);
         }
         let n = events(letters, codes);
         if codes.len() < n {
-            return false;
+            return Ok(false);
         }
-        return check_header(header, gate, antenna, &codes[..n]);
+        return check_header(out, header, gate, antenna, &codes[..n]);
     }
-    false
+    Ok(false)
 }
 
 // The trial of four lines, with room for its events; false where a line is bad.
-fn run_lines(header: &[u8], gate: &[u8], antenna: &[u8], letters: &[u8]) -> bool {
+fn run_lines(
+    out: &impl Print,
+    header: &[u8],
+    gate: &[u8],
+    antenna: &[u8],
+    letters: &[u8],
+) -> io::Result<bool> {
     let mut codes = [0u8; 65_536];
-    check_events(header, gate, antenna, letters, &mut codes)
+    check_events(out, header, gate, antenna, letters, &mut codes)
 }
 
 // The place after a line.
@@ -629,9 +692,9 @@ fn after(end: usize, len: usize) -> usize
 }
 
 // The trial at a place, whose first line is not empty, with its number; the place after it.
-fn trial_at(input: &[u8], from: usize, number: usize) -> usize
+fn trial_at(out: &impl Print, input: &[u8], from: usize, number: usize) -> io::Result<usize>
     requires { from < length input.now }
-    ensures { (from < result) × (result ≤ length input.now) }
+    ensures { IfOk result (λ next. (from < next) × (next ≤ length input.now)) }
 {
     let a = line_end(input, from + 1);
     let from_gate = after(a, input.len());
@@ -642,17 +705,18 @@ fn trial_at(input: &[u8], from: usize, number: usize) -> usize
     let d = line_end(input, from_events);
     let next = after(d, input.len());
     if run_lines(
+        out,
         &input[from..a],
         &input[from_gate..b],
         &input[from_antenna..c],
         &input[from_events..d],
-    ) {
-        return next;
+    )? {
+        return Ok(next);
     }
-    text(b"bad ");
-    decimal(number as u64);
-    text(b"\n");
-    next
+    text(out, b"bad ")?;
+    decimal(out, number as u64)?;
+    text(out, b"\n")?;
+    Ok(next)
 }
 
 // The place of the next line that is not empty, or the end.
@@ -670,22 +734,38 @@ fn past_empty(input: &[u8], from: usize) -> usize
     n
 }
 
-fn trials(input: &[u8]) {
+fn trials(out: &impl Print, input: &[u8]) -> io::Result<()> {
     let mut number: usize = 0;
     let mut from = past_empty(input, 0);
     while from < input.len() {
         number += 1;
-        let next = trial_at(input, from, number);
+        let next = trial_at(out, input, from, number)?;
         from = past_empty(input, next);
     }
+    Ok(())
 }
 
-fn main() {
+// Reads until the buffer is full or the input ends; how many bytes it put at the buffer's start.
+fn read_full(input: &mut impl Read, to: &mut [u8]) -> io::Result<usize>
+    ensures { IfOk result (λ n. n ≤ length to.new) }
+{
+    let mut done = 0;
+    while done < to.len() {
+        let n = input.read(&mut to[done..])?;
+        if n == 0 {
+            break;
+        }
+        done += n;
+    }
+    Ok(done)
+}
+
+fn main(rt: HostRuntime) -> io::Result<()> {
     // One byte more than the longest input.
     let mut input = [0u8; INPUT + 1];
-    let n = io::read_full(STDIN_FILENO, &mut input);
+    let n = read_full(&mut rt.stdin(), &mut input)?;
     if INPUT < n {
-        return text(b"bad\n");
+        return text(&rt, b"bad\n");
     }
-    trials(&input[..n]);
+    trials(&rt, &input[..n])
 }
