@@ -9,11 +9,12 @@ import re
 import sys
 
 os.chdir(os.path.join(os.path.dirname(os.path.abspath(__file__)), '..'))
-WORD = re.compile(r"[^\s(){}.,;:λ⌜⌝«»]+")
+WORD = re.compile(r"[^\s(){}.,;:λ«»]+")
+CLAUSE = re.compile(r'\s*(requires|ensures|ghost)\b[^{}]*$')
 
 
 def crates():
-    names = [line.split(':')[0] for line in open('crates.txt') if re.match(r'\w+:', line)]
+    names = re.findall(r'(?m)^(\w+)(?: staticlib)?:', open('crates.txt').read())
     return [n for n in names if os.path.exists(f'crates/{n}/src/lib.rt')]
 
 
@@ -25,7 +26,7 @@ def imports(lines):
     # name as used in the file -> (specs file, name there)
     found = {}
     for line in lines:
-        m = re.match(r'(?:ghost )?use Rattle·(\w+)(?:·specs)?(?:\.specs)\.(\w+)\.\{(.*)\}', line)
+        m = re.match(r'(?:ghost )?use Rattle\.(\w+)\.specs\.(\w+)\.\{(.*)\}', line)
         if not m:
             continue
         for item in m.group(3).split(','):
@@ -50,19 +51,27 @@ def definitions(path):
     return found
 
 
+def head_of(text):
+    # what stands before the body: up to the first brace that no clause opens
+    depth, start = 0, 0
+    for m in re.finditer(r'[{}\n]', text):
+        if m.group() == '\n':
+            start = start if depth else m.end()
+        elif m.group() == '}':
+            depth -= 1
+        elif depth or CLAUSE.match(text, start, m.start()):
+            depth += 1
+        else:
+            return text[:m.start()]
+    return text
+
+
 def functions(path):
     # (visibility, name, words of the contract, its text)
-    lines, i = code(path), 0
-    while i < len(lines):
-        m = re.match(r'\s*(pub(?:\(crate\))? )?(?:extern "C" )?fn (\w+)', lines[i])
-        if m:
-            head = []
-            while not re.match(r'\s*\{\s*$', lines[i]) and not (lines[i].rstrip().endswith('{') and '⌜' not in lines[i]):
-                head.append(lines[i])
-                i += 1
-            text = '\n'.join(head)
-            yield (m.group(1) or '').strip(), m.group(2), set(WORD.findall(text)), text
-        i += 1
+    text = '\n'.join(code(path))
+    for m in re.finditer(r'(?m)^\s*(pub(?:\(crate\))? )?(?:extern "C" )?fn (\w+)', text):
+        head = head_of(text[m.start():])
+        yield (m.group(1) or '').strip(), m.group(2), set(WORD.findall(head)), head
 
 
 def sources(crate):

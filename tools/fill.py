@@ -1,4 +1,6 @@
 #!/usr/bin/env python3
+# Of the kit before the port (docs/PORT.md), in which a proof was one file Proof.antt; kept as it was. Today `rt check --start F` writes the files
+# of a function's proof, Invariants.antt and Answers.antt, and `#[tactic(auto, using(..))]` does what `* = text` did here.
 # Writes proof files from the ones that a check offers and a short file of answers.
 #   rt dev CRATE > target/dev.out; tools/fill.py target/dev.out ANSWERS
 # ANSWERS has a section for each function, begun by a line `== path/of/function` (the folder below proofs/), then

@@ -60,27 +60,33 @@ def run(words, folder):
     return done.stdout
 
 
-def build(name, to, *more):
-    # as `rt lib` calls it, over the libraries that stand in out/
-    kit = os.path.dirname(run(['rt', 'doc'], '.').strip())
-    words = [f'{kit}/bin/rattle', 'build', '--crate-name', name, 'src/lib.rt', '--extern', f'std={kit}/rlibs/std.rlib', '-L', f'dependency={kit}/rlibs']
+def kit():
+    return os.path.dirname(run(['rt', 'doc'], '.').strip())
+
+
+def words_of(verb, name, incremental, jobs):
+    # as `rt` calls the kit's compiler, over the libraries that stand in out/
+    root = 'src/main.rt' if os.path.isfile(f'crates/{name}/src/main.rt') else 'src/lib.rt'
+    words = [f'{kit()}/bin/rattle', verb, '--crate-name', name, root, '--extern', f'std={kit()}/rlibs/std.rlib', '-L', f'dependency={kit()}/rlibs']
     for dep in CRATES[name][1]:
         words += ['--extern', f'{dep}={rlib(dep)}']
     for dep in below(name):
         words += ['-L', f'dependency={os.path.dirname(rlib(dep))}']
-    words += ['--antt-project', f'{kit}/rattle/logic/antt-project.json', '--logic-built', f'{kit}/logic_built', '--links', f'{name}=']
-    words += ['--jobs', str(min(os.cpu_count() or 1, 4)), '--incremental', 'out/incremental', *more, '-o', to]
-    os.makedirs(f'crates/{name}/out', exist_ok=True)
-    said = run(words, f'crates/{name}').strip().split('\n')[-1]
+    words += ['--antt-project', f'{kit()}/rattle/logic/antt-project.json', '--logic-built', f'{kit()}/logic_built', '--links', f'{name}=']
+    return words + ['--jobs', str(jobs), '--incremental', incremental]
+
+
+def build(name, to, *more):
+    os.makedirs(os.path.dirname(f'crates/{name}/{to}'), exist_ok=True)
+    said = run([*words_of('build', name, 'out/incremental', min(os.cpu_count() or 1, 4)), *more, '-o', to], f'crates/{name}').strip().split('\n')[-1]
     if not said.startswith('logic=proved '):
         sys.exit(f'tools/kit.py: {name}: {said}')
-    return kit, said
+    return said
 
 
 def archive():
     if left_by_ci(below('c_api')):
-        kit = os.path.dirname(run(['rt', 'doc'], '.').strip())
-        _, said = build('c_api', 'out/libc_api.a', '--crate-type', 'staticlib', '--toolchain', f'{kit}/toolchain', '--backend', 'llvm')
+        said = build('c_api', 'out/libc_api.a', '--crate-type', 'staticlib', '--toolchain', f'{kit()}/toolchain', '--backend', 'llvm')
     else:
         said = run(['rt', 'lib'], 'crates/c_api').strip().split('\n')[-1]
     print(f'c_api: {said}')
@@ -91,7 +97,6 @@ def mir(name):
         if not left_by_ci(below(name)):
             # no more than the libraries below, where they have changed
             run(['rt', 'check', '--only', ''], f'crates/{name}')
-        os.makedirs(f'crates/{name}/out/mir', exist_ok=True)
         build(name, f'out/mir/{name}.rlib')
         made = f'crates/{name}/out/mir/{name}.rlib'
     else:
@@ -102,9 +107,10 @@ def mir(name):
         sys.stdout.write(it.read())
 
 
-if sys.argv[1:] == ['archive']:
-    archive()
-elif len(sys.argv) == 3 and sys.argv[1] == 'mir' and sys.argv[2] in CRATES:
-    mir(sys.argv[2])
-else:
-    sys.exit('usage: tools/kit.py archive | mir NAME')
+if __name__ == '__main__':
+    if sys.argv[1:] == ['archive']:
+        archive()
+    elif len(sys.argv) == 3 and sys.argv[1] == 'mir' and sys.argv[2] in CRATES:
+        mir(sys.argv[2])
+    else:
+        sys.exit('usage: tools/kit.py archive | mir NAME')

@@ -1,4 +1,6 @@
 #!/usr/bin/env python3
+# Of the kit before the port (docs/PORT.md), in which a proof was one file Proof.antt and `rt goals` wrote its Lts; kept as it was. Today the
+# kit tries such a `simp` itself, and prints the facts that are known at each goal that is left (`rt check --allow-holes`).
 # Fills `?` at the `returns` needs of proof files with a `simp` over the facts on the way there, read off the generated Lts.
 # In the repository's root, after `rt goals CRATE`:  simp_returns.py CRATE module/function ..   (as transfer/after_sending)
 # TESTS=name,name .. names the callees whose results are only tested: their `ensures` is used from right to left.
