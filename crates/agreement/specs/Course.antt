@@ -84,4 +84,5 @@ start_at Antenna g a = a
 -- after a list of events from fresh
 abbrev pub CourseOf : Side → Start → Start → List Event → Type 0
 CourseOf s g a vs =
-    Course (job (start_at s g a)) (transfer_of (start_at s g a)) (at_side s (pair_after g a vs)) (log_of (job g) (job a) s (fresh_pair g a) vs)
+    Course (job (start_at s g a)) (transfer_of (start_at s g a)) (at_side s (pair_after g a vs))
+    (log_of (job g) (job a) s (fresh_pair g a) vs)

@@ -69,7 +69,8 @@ pub record HostTrial : Type 0 where
 
 -- of its parts
 abbrev pub host_trial : ℕ → List ℕ → List ℕ → List ℕ → HostTrial
-host_trial number gate_read antenna_read state = record { number = number; gate_read = gate_read; antenna_read = antenna_read; state = state }
+host_trial number gate_read antenna_read state =
+    record { number = number; gate_read = gate_read; antenna_read = antenna_read; state = state }
 
 -- both states over the front of what was lent for them; at 9 "all as found"
 abbrev pub state_left : ℕ → Seen → Seen → List ℕ → List ℕ
@@ -81,8 +82,10 @@ of_trial t state = host_trial t.number t.gate_read t.antenna_read (state_left t.
 
 -- bit 0 of `inplace` is the gate's, bit 1 the antenna's
 abbrev pub trial_by : Width → ℕ → ℕ → ℕ → ℕ → ℕ → List ℕ → List ℕ → List ℕ → List ℕ → List ℕ → List ℕ → HostTrial
-trial_by width gate_driver antenna_driver inplace gate_exponent antenna_exponent gate_read gate_write antenna_read antenna_write events state =
+trial_by width gate_driver antenna_driver inplace gate_exponent antenna_exponent gate_read gate_write antenna_read antenna_write events
+    state =
     of_trial
-    (trial_of (width_bits width) (board_of width gate_driver inplace gate_exponent) (board_of width antenna_driver (inplace / 2) antenna_exponent)
+    (trial_of (width_bits width) (board_of width gate_driver inplace gate_exponent)
+    (board_of width antenna_driver (inplace / 2) antenna_exponent)
     gate_read gate_write antenna_read antenna_write events)
     state

@@ -1,7 +1,8 @@
 -- A run (document 01, Results by place of check): a machine, driven from a script under a budget, with its log. It is one definition
 -- for every call: the machine M says which access is due (`next`) and goes on by its answer (`resume`).
 -- Assumes nothing.
-use Rattle.std.specs.Prelude.{ℕ, zero, suc, ◌+◌, ◌*◌, Bool, true, false, cond, ◌||◌, List, [], ◌∷◌, ◌++◌, leb, ltb, length, get_or, set, drop}
+use Rattle.std.specs.Prelude.{ℕ, zero, suc, ◌+◌, ◌*◌, Bool, true, false, cond, ◌||◌, leb, ltb}
+use Rattle.std.specs.Prelude.{List, [], ◌∷◌, ◌++◌, length, get_or, set, drop}
 use Rattle.manual.specs.declared.Register.TheVariants.{TDR, RDR}
 use Rattle.manual.specs.Manual.{offset_of}
 use Rattle.sequences.specs.declared.access.Access.{Access}

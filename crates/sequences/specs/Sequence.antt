@@ -1,7 +1,8 @@
 -- A call as a sequence of moves, each one register access, and what a move does. `modify_reg!` is `modify`: a read (Look), then a write
 -- with only the named fields changed (Modify). `write_reg!` of fields is Set, of a word Write.
 -- Assumes nothing.
-use Rattle.std.specs.Prelude.{ℕ, ◌+◌, ◌-◌, ◌/◌, ◌^◌, min, Bool, true, false, cond, not, ◌||◌, List, [], ◌∷◌, ltb, eqb, get_or, set, replicate}
+use Rattle.std.specs.Prelude.{ℕ, ◌+◌, ◌-◌, ◌/◌, ◌^◌, min, Bool, true, false, cond, not, ◌||◌, ltb, eqb}
+use Rattle.std.specs.Prelude.{List, [], ◌∷◌, get_or, set, replicate}
 use Rattle.manual.specs.declared.Ccr.TheVariants.{DBT, SCKDIV}
 use Rattle.manual.specs.declared.Cfgr1.TheVariants.{MASTER, SAMPLE, PCSPOL}
 use Rattle.manual.specs.declared.Cr.TheVariants.{MEN, RST, RTF, RRF}

@@ -1,6 +1,7 @@
 // The command of a transfer, as the register TCR has it.
 ghost use Rattle.std.specs.Prelude.{◌≡◌, ◌*◌, length};
-ghost use Rattle.words.specs.Command.{flag_of, set_flag, set_order, set_mode, set_pcs, settings_word, frame_accepted, command_answer, framed};
+ghost use Rattle.words.specs.Command.{flag_of, set_flag, set_order, set_mode, set_pcs, settings_word};
+ghost use Rattle.words.specs.Command.{frame_accepted, command_answer, framed};
 ghost use Rattle.words.specs.Width.{width_bits};
 ghost use Rattle.words.specs.declared.width.Width.TheVariants.{U8};
 ghost use Rattle.manual.specs.declared.Tcr.TheVariants.{BYSW, RXMSK, TXMSK, CONT, CONTC};
