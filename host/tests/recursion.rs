@@ -3,9 +3,9 @@
 //! Of a library, the functions for hosts among them, `tools/kit.py mir NAME` prints what is proved and compiled. Every call in it names its
 //! function, and the function is one of these crates'; so these names are the whole graph of calls, and it must have no cycle.
 //!
-//! Of a program the kit prints no such thing, but it proves no cycle of calls without a measure, which stands in a folder of the cycle's
-//! own, `proofs/+NAME/`. No crate may have one. What the programs call in the kit's library is not followed; the library's own cycles
-//! are in three modules, of which no source may have a word.
+//! Of a program the kit leaves no such thing, but it proves no cycle of calls without a measure, which stands in a folder of the cycle's
+//! own, `proofs/+NAME/`. No crate may have one. The kit's own libraries have cycles, in three modules; each of their functions from which
+//! a chain of calls leads there has one of a few words in its path, and no source has one of these.
 //!
 //! Where something has changed since it was proved, `tools/kit.py` has it proved first. Let no other `rt` work on the tree meanwhile.
 
@@ -37,7 +37,10 @@ fn mir(repository: &Path, name: &str) -> String {
 
 /// Adds a crate's calls to `calls`, off its MIR, a list of `["NAME",{"lifetimes":..}]`.
 fn collect(mir: &str, calls: &mut Calls) {
-    assert!(mir.starts_with("[[") || mir == "[]\n", "a list of functions");
+    assert!(
+        mir.starts_with("[[") || mir == "[]\n",
+        "a list of functions"
+    );
     let by_name = mir.matches("{\"Call\":[{\"Fn\":[\"").count();
     assert_eq!(
         mir.matches("\"Call\"").count(),
@@ -50,13 +53,27 @@ fn collect(mir: &str, calls: &mut Calls) {
         mir.matches("\"dicts\":[]").count(),
         "no function is passed on behind a bound"
     );
-    let pieces: Vec<_> = mir.split("\",{\"lifetimes\":").collect();
-    for pair in pieces.windows(2) {
-        let (_, name) = pair[0].rsplit_once("[\"").unwrap();
-        let called = pair[1].split("{\"Fn\":[\"").skip(1);
-        let called = called.map(|rest| rest.split('"').next().unwrap().into());
+    for (name, text) in definitions(mir) {
+        let called = named(text, "{\"Fn\":[\"").map(Into::into);
         calls.entry(name.into()).or_default().extend(called);
     }
+}
+
+/// The functions, each with its text.
+fn definitions(mir: &str) -> Vec<(&str, &str)> {
+    let pieces: Vec<_> = mir.split("\",{\"lifetimes\":").collect();
+    let mut found = Vec::new();
+    for pair in pieces.windows(2) {
+        let (_, name) = pair[0].rsplit_once("[\"").unwrap();
+        found.push((name, pair[1]));
+    }
+    found
+}
+
+/// The names behind such a mark.
+fn named<'a>(text: &'a str, mark: &'a str) -> impl Iterator<Item = &'a str> {
+    let pieces = text.split(mark).skip(1);
+    pieces.map(|rest| rest.split('"').next().unwrap())
 }
 
 /// A cycle of calls, from a function back to itself, if there is one.
@@ -132,25 +149,39 @@ fn cycles_of(folder: &Path) -> Vec<PathBuf> {
     found
 }
 
-/// The modules of the kit's library that have a cycle of calls, by the folders of those cycles.
-fn cycles_of_the_kit() -> BTreeSet<String> {
+/// The kit's libraries that a crate reaches.
+const KIT: [&str; 9] = [
+    "core",
+    "io",
+    "libc",
+    "os",
+    "std",
+    "std_alloc",
+    "std_collections",
+    "std_heap",
+    "std_io",
+];
+
+/// A file that the kit has of each of these libraries.
+fn of_the_kit(file: &str) -> Vec<(&'static str, String)> {
     let mut rt = Command::new("rt");
     let page = printed(rt.arg("doc").output().expect("`rt`, of the Rattle kit"));
     let rlibs = Path::new(page.trim()).with_file_name("rlibs");
+    let read = |name| {
+        let file = rlibs.join(format!("{name}.rlib/toolchain/{file}"));
+        let text = fs::read_to_string(&file);
+        (
+            name,
+            text.unwrap_or_else(|error| panic!("{file:?}: {error}")),
+        )
+    };
+    KIT.map(read).into()
+}
+
+/// The modules of the kit's libraries that have a cycle of calls, by the folders of those cycles.
+fn cycles_of_the_kit() -> BTreeSet<String> {
     let mut found = BTreeSet::new();
-    for name in [
-        "core",
-        "io",
-        "libc",
-        "os",
-        "std",
-        "std_alloc",
-        "std_collections",
-        "std_heap",
-        "std_io",
-    ] {
-        let list = rlibs.join(format!("{name}.rlib/toolchain/checked.json"));
-        let list = fs::read_to_string(&list).unwrap_or_else(|error| panic!("{list:?}: {error}"));
+    for (name, list) in of_the_kit("checked.json") {
         let proofs = format!("Rattle-{name}-proofs.");
         assert!(list.contains(&proofs), "{name}: no module of a proof");
         for module in list.split(&proofs[..]).skip(1) {
@@ -192,7 +223,42 @@ fn no_function_calls_itself() {
     assert_eq!(cycle(&calls), None, "a cycle of calls");
 }
 
-/// Of the modules with cycles in the kit's library no source has a word.
+/// The kit's functions from which a chain of calls may lead to one of these modules. A function may call each function that it names, and
+/// each of an impl that it passes on.
+fn leads_to(modules: &[&str]) -> BTreeSet<String> {
+    let texts = of_the_kit("mir.json");
+    let all: Vec<_> = texts.iter().flat_map(|(_, mir)| definitions(mir)).collect();
+    let mut of_impl = BTreeMap::<_, Vec<_>>::new();
+    for (name, _) in &all {
+        if let Some((front, _)) = name.rsplit_once("::") {
+            of_impl.entry(front).or_default().push(*name);
+        }
+    }
+    let mut callers = BTreeMap::<_, Vec<_>>::new();
+    for (name, text) in &all {
+        let impls = named(text, "{\"Impl\":[\"").filter_map(|name| of_impl.get(name));
+        for called in named(text, "{\"Fn\":[\"").chain(impls.flatten().copied()) {
+            callers.entry(called).or_default().push(*name);
+        }
+    }
+    let inside = |name: &str| {
+        let mut behind = modules
+            .iter()
+            .filter_map(|module| name.strip_prefix(module));
+        behind.any(|rest| rest.starts_with("::"))
+    };
+    let mut todo: Vec<_> = all.iter().map(|(name, _)| *name).collect();
+    todo.retain(|name| inside(name));
+    let mut found = BTreeSet::new();
+    while let Some(name) = todo.pop() {
+        if found.insert(name.to_owned()) {
+            todo.extend(callers.get(name).into_iter().flatten());
+        }
+    }
+    found
+}
+
+/// No source has a word by which a function of the kit that leads to a cycle, or its type or module, would be named.
 #[test]
 #[cfg_attr(not(kit), ignore = "the kit is missing")]
 fn no_cycle_of_the_kit_is_named() {
@@ -202,13 +268,20 @@ fn no_cycle_of_the_kit_is_named() {
         "std_collections::btree::node",
     ];
     assert_eq!(cycles_of_the_kit(), BTreeSet::from(modules.map(Into::into)));
+    let found = leads_to(&modules);
+    assert!(found.len() > 200, "only {} functions", found.len());
+    for name in found {
+        let path = name.to_lowercase();
+        let mut words = ["sort", "slice::select", "thread", "btree", "process"].into_iter();
+        assert!(words.any(|word| path.contains(word)), "{name}");
+    }
     let crates = Path::new(env!("CARGO_MANIFEST_DIR")).join("../crates");
     let files = sources(&crates);
     assert!(files.len() > 50, "only {} sources", files.len());
     for file in files {
         let text = fs::read_to_string(&file).unwrap();
         let text = code(&text).join("\n").to_lowercase();
-        for word in ["sort", "select_nth", "thread", "btree"] {
+        for word in ["sort", "select_nth", "thread", "btree", "process"] {
             assert!(!text.contains(word), "{}: {word}", file.display());
         }
     }
