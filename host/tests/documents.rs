@@ -5,13 +5,13 @@
 //! - each code span: a file or folder must be there, from the root or by the end of its path
 //!   (`words/src/order.rt`); of all else every identifier must occur, as a whole word, in a file of the
 //!   repository that is no document, or be the name of such a file;
-//! - a law with its module (`WordLaws.unpack-at`), a name with its type (`Field::set`), a definition with
+//! - a law with its module (`WordLaws.unpack_at`), a name with its type (`Field::set`), a definition with
 //!   its crate and file (words `Command` (`commanded`)), a function behind its path: they must be there;
 //! - files and words in capitals outside of code spans, and the titles of examples of the program lpspi;
 //! - each link, with its anchor.
 //!
-//! Blocks of code are left out; other tests run what BUSLOG, BUS and CALLS show. docs/CHANGES.md is history
-//! and names what is gone: of it only the links are looked at.
+//! Blocks of code are left out; other tests run what BUSLOG, BUS and CALLS show. docs/CHANGES.md and
+//! docs/PORT.md are history and name what is gone: of them only the links are looked at.
 
 #[path = "common/cited.rs"]
 mod cited;
@@ -60,7 +60,7 @@ fn what_does_not_exist_is_seen() {
     let missing = |text: &str| repository.cited("docs/AUDIT.md", text).missing;
     for sound in [
         "`spread_msb_u8` in `crates/words/src/unpack.rt`; words `Command` (`commanded`)",
-        "`WordLaws.unpack-at`, `Field::set`, `with_..`, `_u8`, `longer_*`, lpspi (\"513 bytes\")",
+        "`WordLaws.unpack_at`, `Field::set`, `with_..`, `_u8`, `longer_*`, lpspi (\"513 bytes\")",
         "[AUDIT](AUDIT.md), [there](DECISIONS.md#the-gate), [README](../README.md)\n\n    `made_up`\n",
         "- `words/src/clock.rt`: `as_raw`\n\n```\n`made_up`\n```\n",
     ] {

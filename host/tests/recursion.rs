@@ -7,6 +7,10 @@
 //! own, `proofs/+NAME/`. No crate may have one. The kit's own libraries have cycles, in three modules; each of their functions from which
 //! a chain of calls leads there has one of a few words in its path, and no source has one of these.
 //!
+//! So the machine code of each program is looked at as well, with what it has of the kit's library: by the names in it no function calls
+//! itself either, and no call but those of the C library's start goes by an address that is computed. (A call in the last place may have
+//! become a loop there; that is left to the two rules above.)
+//!
 //! Where something has changed since it was proved, `tools/kit.py` has it proved first. Let no other `rt` work on the tree meanwhile.
 
 #[path = "common/sources.rs"]
@@ -285,6 +289,125 @@ fn no_cycle_of_the_kit_is_named() {
             assert!(!text.contains(word), "{}: {word}", file.display());
         }
     }
+}
+
+/// Adds the calls of a program's functions to `calls`, off its machine code as `objdump -d` prints it, and gives the functions that call by
+/// an address that is computed. What the dynamic linker brings is a function that calls none.
+fn disassembled(text: &str, calls: &mut Calls) -> BTreeSet<String> {
+    let mut computed = BTreeSet::new();
+    let mut function = String::new();
+    for line in text.lines() {
+        if let Some((_, name)) = line.strip_suffix(">:").and_then(|it| it.split_once(" <")) {
+            function = name.into();
+            calls.entry(function.clone()).or_default();
+            continue;
+        }
+        let Some((_, instruction)) = line.split_once(":\t") else {
+            continue;
+        };
+        let jump = instruction.starts_with('j');
+        if !jump && !instruction.starts_with("call") {
+            continue;
+        }
+        // A jump that leaves its function is a call in the last place.
+        match instruction.split_once('<') {
+            Some((front, to)) if !front.contains('*') => {
+                let to = to.strip_suffix('>').unwrap();
+                let (name, inside) = match to.rsplit_once("+0x") {
+                    Some((name, _)) => (name, true),
+                    None => (to, false),
+                };
+                if !(jump && name == function) {
+                    assert!(!inside, "{function}: into {to}");
+                    calls.get_mut(&function).unwrap().insert(name.into());
+                }
+            }
+            _ if jump && !instruction.contains('*') => panic!("{function}: {instruction}"),
+            // A jump by a table of the function's own is no call, and the stubs of the dynamic linker jump out of the program.
+            _ if jump => {}
+            _ => {
+                computed.insert(function.clone());
+            }
+        }
+    }
+    computed
+}
+
+fn machine_code(program: &Path) -> String {
+    let mut objdump = Command::new("objdump");
+    objdump
+        .args(["-d", "--no-show-raw-insn", "--section=.text"])
+        .arg(program);
+    let text = objdump.output().expect("`objdump`, beside the C linker");
+    printed(text)
+}
+
+#[test]
+#[cfg_attr(not(all(buslog, lpspi, trial)), ignore = "a program is missing")]
+fn no_function_of_a_program_calls_itself() {
+    for name in ["buslog", "lpspi", "trial"] {
+        let crates = Path::new(env!("CARGO_MANIFEST_DIR")).join("../crates");
+        let text = machine_code(&crates.join(format!("{name}/out/{name}")));
+        let mut calls = Calls::new();
+        let computed = disassembled(&text, &mut calls);
+        let own = calls
+            .keys()
+            .filter(|it| it.starts_with(&format!("{name}::")));
+        assert!(own.count() > 0, "{name}: no function of its own");
+        assert!(calls.len() > 20, "{name}: only {} functions", calls.len());
+        let start = [
+            "_start",
+            "deregister_tm_clones",
+            "register_tm_clones",
+            "__do_global_dtors_aux",
+        ];
+        let start = BTreeSet::from(start.map(String::from));
+        let others: Vec<_> = computed.difference(&start).collect();
+        assert_eq!(others, [&""; 0], "{name}: calls by a computed address");
+        let outside: Vec<String> = calls.values().flatten().cloned().collect();
+        for function in outside {
+            assert!(
+                calls.contains_key(&function) || function.ends_with("@plt"),
+                "{name}: {function}"
+            );
+            calls.entry(function).or_default();
+        }
+        assert_eq!(cycle(&calls), None, "{name}: a cycle of calls");
+    }
+}
+
+/// The same on machine code that has recursions.
+#[test]
+fn a_recursion_in_machine_code_is_seen() {
+    let found = |lines: &[&str]| {
+        let mut calls = Calls::new();
+        let computed = disassembled(&lines.join("\n"), &mut calls);
+        let path = cycle(&calls).map_or("none".into(), |path| path.join(" "));
+        (path, computed.into_iter().collect::<Vec<_>>())
+    };
+    let half = [
+        "0000000000001000 <half>:",
+        "    1000:\tshr    $1,%edi",
+        "    1002:\tret",
+    ];
+    let twice = [
+        "0000000000001010 <twice>:",
+        "    1010:\tcall   1000 <half>",
+        "    1015:\tjne    1010 <twice>",
+        "    1017:\tjmp    1000 <half>",
+    ];
+    let both = [&half[..], &twice[..]].concat();
+    assert_eq!(found(&both), ("none".into(), vec![]));
+    let itself = ["0000000000001020 <down>:", "    1020:\tcall   1020 <down>"];
+    assert_eq!(found(&[&both[..], &itself[..]].concat()).0, "down down");
+    let even = ["0000000000001030 <even>:", "    1030:\tcall   1040 <odd>"];
+    let odd = ["0000000000001040 <odd>:", "    1040:\tjmp    1030 <even>"];
+    assert_eq!(
+        found(&[&both[..], &even[..], &odd[..]].concat()).0,
+        "even odd even"
+    );
+    let computed = ["0000000000001050 <by>:", "    1050:\tcall   *%rax"];
+    assert_eq!(found(&[&both[..], &computed[..]].concat()).1, ["by"]);
 }
 
 /// A tree with one library, `low`, whose proofs are those files.

@@ -37,8 +37,8 @@ const BESIDE: &str = "../shared";
 /// What is built stands in folders of that name.
 const BUILT: &str = "/out/";
 
-/// This page is history, and names what is gone.
-const HISTORY: &str = "docs/CHANGES.md";
+/// These pages are history, and name what is gone.
+const HISTORY: [&str; 2] = ["docs/CHANGES.md", "docs/PORT.md"];
 
 /// These files name what does not exist.
 const NO_SOURCE: [&str; 2] = ["host/tests/documents.rs", "host/tests/common/cited.rs"];
@@ -199,7 +199,7 @@ impl Repository {
             for target in targets {
                 cited.link(target, text);
             }
-            if page != HISTORY {
+            if !HISTORY.contains(&page) {
                 cited.paragraph(&paragraph);
             }
         }
