@@ -41,7 +41,11 @@ const BUILT: &str = "/out/";
 const HISTORY: [&str; 2] = ["docs/CHANGES.md", "docs/PORT.md"];
 
 /// These files name what does not exist.
-const NO_SOURCE: [&str; 2] = ["host/tests/documents.rs", "host/tests/common/cited.rs"];
+const NO_SOURCE: [&str; 3] = [
+    "host/tests/documents.rs",
+    "host/tests/common/cited.rs",
+    "tools/respelled.tsv",
+];
 
 pub fn outside() -> impl Iterator<Item = &'static str> {
     OUTSIDE
