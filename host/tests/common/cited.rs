@@ -17,18 +17,17 @@ pub const OUTSIDE: &[(&str, &str)] = &[
         "NOSTALL PRESCALE",
     ),
     (
-        "the kit: its programs, and words of its verdict and of its proofs",
-        "After-f LLVM axioms clang libraries-built logic-built min-le-left nat rattle rattle-cases \
-         toolchain trusted try",
+        "the kit: its name, programs and commands, words of its verdict and of its proofs, C functions of its std",
+        "LLVM __xpg_strerror_r axioms clang dac8208d650f15bf libraries-built logic-built nat rattle rattle-kit-13f \
+         rattle_errno returns-in-BYSW statements tidy toolchain trusted try",
     ),
-    ("tools beside the repository", "paths.py rtdev"),
     (
         "other programs, languages and machines",
-        "Cllvm-args EPYC RUSTFLAGS TMPDIR=/tmp/cap bswap diff disassemble inline-threshold memcpy memset movups \
+        "Cllvm-args EPYC RUSTFLAGS bswap diff disassemble inline-threshold memcpy memset movups \
          objdump perf size_of_val strace uint32_t writeln",
     ),
     ("what is built", "libc_api.a"),
-    ("letters that stand for any name", "MODULE Q a_b"),
+    ("letters that stand for any name", "MODULE Q"),
 ];
 
 /// How paths begin that lead out of the tree, to the folder beside the repository.
