@@ -48,6 +48,7 @@ pub(crate) enum Parsed {
     Malformed,
 }
 
+#[tactic(auto, using(std::proofs::lemmas::Bool::Decides::nat_tests))]
 fn digit(byte: u8) -> Number
     ensures { number_answer result ≡ digit_of byte }
 {
