@@ -46,10 +46,10 @@ def sources(name):
 
 
 def left_by_ci(names):
-    # the libraries that `rt ci` made bear no stamp
+    # the libraries that `rt ci` made bear no stamp; their files may be older than the tree, which got them from an earlier run, their folder not
     if any(os.path.exists(f'crates/{name}/out/rlib/stamp') or not os.path.isfile(f'{rlib(name)}/format') for name in names):
         return False
-    made = min(os.stat(f'{rlib(name)}/format').st_mtime for name in names)
+    made = min(os.stat(os.path.dirname(rlib(name))).st_mtime for name in names)
     return all(os.stat(path).st_mtime <= made for name in names for path in sources(name))
 
 
