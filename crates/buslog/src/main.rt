@@ -1,15 +1,17 @@
 // Four lines on standard input: a separate exchange. Prints its listing, or `bad`.
 #![tactic(auto)]
 
-ghost use Rattle.std.specs.Prelude.{◌≤◌, length, IfOk};
+ghost use Rattle.std.specs.Prelude.{◌≡◌, ◌≤◌, length, IfOk};
 
 use lines::buslog::{INPUT, OUTPUT, buslog};
 use std::io;
 use std::io::Read;
 
-// Reads until the buffer is full or the input ends; how many bytes it put at the buffer's start.
+// Reads until the buffer is full or the input ends; how many bytes it put at the buffer's start. An error of a read leaves the buffer as
+// long as it was, with whatever came before.
 fn read_full(input: &mut impl Read, to: &mut [u8]) -> io::Result<usize>
-    ensures { IfOk result (λ n. n ≤ length to.new) }
+    ensures read { IfOk result (λ n. n ≤ length to.new) }
+    ensures kept { length to.new ≡ length to.old }
 {
     let mut done = 0;
     while done < to.len() {

@@ -745,9 +745,11 @@ fn trials(out: &impl Print, input: &[u8]) -> io::Result<()> {
     Ok(())
 }
 
-// Reads until the buffer is full or the input ends; how many bytes it put at the buffer's start.
+// Reads until the buffer is full or the input ends; how many bytes it put at the buffer's start. An error of a read leaves the buffer as
+// long as it was, with whatever came before.
 fn read_full(input: &mut impl Read, to: &mut [u8]) -> io::Result<usize>
-    ensures { IfOk result (λ n. n ≤ length to.new) }
+    ensures read { IfOk result (λ n. n ≤ length to.new) }
+    ensures kept { length to.new ≡ length to.old }
 {
     let mut done = 0;
     while done < to.len() {
