@@ -1,6 +1,6 @@
 #!/usr/bin/env python3
-# Which definitions a reader has to believe: those of crates/*/specs that the contract of a public function reaches, by file, in reading order
-# (the libraries of crates.txt, lowest first; in each the order of specs/Lib.antt).
+# Which definitions a reader has to believe: those of crates/*/specs that the contract of a public function or of a public trait reaches, by file, in
+# reading order (the libraries of crates.txt, lowest first; in each the order of specs/Lib.antt).
 #   tools/definitions.py              a line a file: its lines, how many definitions public contracts reach, and which only private ones do
 #   tools/definitions.py bus c_api    only what the public functions of these crates reach
 # It goes by names and `use` lines. It fails where a public function has no `ensures` or has a `requires`.
@@ -74,6 +74,12 @@ def functions(path):
         yield (m.group(1) or '').strip(), m.group(2), set(WORD.findall(head)), head
 
 
+def traits(path):
+    # the words of a public trait: its ghost members, and the contracts of its methods, are public as it is
+    text = '\n'.join(code(path))
+    return [set(WORD.findall(m.group())) for m in re.finditer(r'(?ms)^pub trait .*?^}', text)]
+
+
 def sources(crate):
     return [os.path.join(d, f) for d, _, fs in os.walk(f'crates/{crate}/src') for f in sorted(fs)]
 
@@ -91,6 +97,8 @@ def main():
     for crate in crates():
         for path in sources(crate):
             named = imports(code(path))
+            if crate in wanted:
+                public.update(named[w] for words in traits(path) for w in words if w in named)
             for visible, name, words, text in functions(path):
                 cited = {named[w] for w in words if w in named}
                 (public if visible == 'pub' and crate in wanted else private).update(cited)

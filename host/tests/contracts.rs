@@ -1,4 +1,4 @@
-//! Every public function of every library has a contract, and demands nothing of its caller.
+//! Every public function of every library has a contract, and demands nothing of its caller. A public trait's methods are public functions.
 //!
 //! The prover checks what a contract says; that there is one, and that no public one has a `requires`, is read off the sources here.
 
@@ -33,21 +33,22 @@ fn begins_clause(head: &str) -> bool {
     first.is_some_and(|word| ["requires", "ensures", "ghost"].contains(&word))
 }
 
-/// The signature and contract of each public function: what stands before its body.
+/// The signature and contract of each public function: what stands before its body, of a method of a public trait up to its end.
 fn public_functions(text: &str) -> Vec<String> {
     let lines = code(text);
-    let public = |line: &str| {
-        let line = line.trim_start();
-        line.starts_with("pub ") && format!(" {line}").contains(" fn ")
-    };
+    let mut of_trait = false;
     let mut functions = Vec::new();
     for (i, line) in lines.iter().enumerate() {
-        if public(line) {
+        of_trait = line.starts_with("pub trait ") || (of_trait && !line.starts_with('}'));
+        let public = line.trim_start().starts_with("pub ") || of_trait;
+        if public && format!(" {line}").contains(" fn ") {
             let mut open = 0;
+            let ends = |line: &str| of_trait && line.ends_with(';');
             let end = (i..lines.len())
-                .find(|&j| opens_body(lines[j], &mut open))
+                .find(|&j| opens_body(lines[j], &mut open) || ends(lines[j]))
                 .expect("a body");
-            functions.push(lines[i..end].join("\n"));
+            let last = end + usize::from(ends(lines[end]));
+            functions.push(lines[i..last].join("\n"));
         }
     }
     functions
@@ -102,6 +103,17 @@ fn a_missing_contract_is_seen() {
             "pub extern \"C\" fn h(a: u8)\n    requires { a ≡ 0 }"
         ]
     );
+}
+
+#[test]
+fn a_method_of_a_public_trait_is_seen() {
+    let methods = [
+        "    fn f() -> u8\n        ensures { result ≡ 1 };",
+        "    fn g(a: u8) -> u8;",
+    ];
+    let text = |head: &str| format!("{head} T: Copy {{\n{}\n}}\n", methods.join("\n\n"));
+    assert_eq!(public_functions(&text("pub trait")), methods);
+    assert_eq!(public_functions(&text("trait")), [""; 0]);
 }
 
 /// A clause may end a line with a brace of its own.

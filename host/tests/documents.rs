@@ -10,8 +10,8 @@
 //! - files and words in capitals outside of code spans, and the titles of examples of the program lpspi;
 //! - each link, with its anchor.
 //!
-//! Blocks of code are left out; other tests run what BUSLOG, BUS and CALLS show. docs/CHANGES.md and
-//! docs/PORT.md are history and name what is gone: of them only the links are looked at.
+//! Blocks of code are left out; other tests run what BUSLOG, BUS and CALLS show. docs/CHANGES.md,
+//! docs/DESIGN-PASS.md and docs/PORT.md are history and name what is gone: of them only the links are looked at.
 
 #[path = "common/cited.rs"]
 mod cited;
@@ -59,7 +59,7 @@ fn what_does_not_exist_is_seen() {
     let repository = Repository::new();
     let missing = |text: &str| repository.cited("docs/AUDIT.md", text).missing;
     for sound in [
-        "`spread_msb_u8` in `crates/words/src/unpack.rt`; words `Command` (`commanded`)",
+        "`spread` in `crates/words/src/unpack.rt`; words `Command` (`commanded`)",
         "`WordLaws.unpack_at`, `Field::set`, `with_..`, `_u8`, `longer_*`, lpspi (\"513 bytes\")",
         "[AUDIT](AUDIT.md), [there](DECISIONS.md#the-gate), [README](../README.md)\n\n    `made_up`\n",
         "- `words/src/clock.rt`: `as_raw`\n\n```\n`made_up`\n```\n",
@@ -106,7 +106,7 @@ fn what_does_not_exist_is_seen() {
     }
 }
 
-/// PROMISES has every public function.
+/// PROMISES has every public function, the methods of public traits among them.
 #[test]
 fn public_functions_are_on_promises() {
     let (mut named, mut beginnings) = (BTreeSet::new(), BTreeSet::new());
@@ -120,11 +120,13 @@ fn public_functions_are_on_promises() {
     let (mut seen, mut missing) = (0, Vec::new());
     for file in sources(&root().join("crates")) {
         let text = fs::read_to_string(&file).unwrap();
+        let mut of_trait = false;
         for line in code(&text) {
+            of_trait = line.starts_with("pub trait ") || (of_trait && !line.starts_with('}'));
             let Some((front, tail)) = line.trim_start().split_once("fn ") else {
                 continue;
             };
-            if front.starts_with("pub ") {
+            if front.starts_with("pub ") || of_trait {
                 seen += 1;
                 let name = identifiers(tail)[0].0;
                 if !named.contains(name) && !beginnings.iter().any(|front| name.starts_with(front))

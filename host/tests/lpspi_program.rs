@@ -39,14 +39,30 @@ fn documented_calls() {
     }
 }
 
-/// The names of the program's calls, from its table.
+/// The names of the program's calls, from its tables: each is a match over names, or over names
+/// without their widths.
 fn names() -> Vec<String> {
     let path = Path::new(env!("CARGO_MANIFEST_DIR")).join("../crates/lpspi/src/names.rt");
-    let source = fs::read_to_string(path).expect("the table is there");
-    let table = source.split('"').nth(1).expect("a byte string");
-    let words = table.replace("\\\n", " ");
-    let names = words.split_whitespace().step_by(2).map(str::to_owned);
-    names.collect()
+    let source = fs::read_to_string(path).expect("the tables are there");
+    let mut names: Vec<String> = vec![];
+    for table in source.split("match ").skip(1) {
+        let (over, arms) = table.split_once(" {\n").expect("a match of a string");
+        let (arms, _) = arms.split_once("_ =>").unwrap_or_default();
+        let arms = arms.lines().map(str::trim_start);
+        for name in arms.filter_map(|arm| arm.strip_prefix('"')?.split_once('"')) {
+            match (over, name.0) {
+                ("stem", "new") => {
+                    names.extend(["new_u8s", "new_u16s", "new_u32s"].map(str::to_owned))
+                }
+                ("stem", stem) => {
+                    names.extend(["8", "16", "32"].map(|bits| format!("{stem}_u{bits}")))
+                }
+                ("name", name) => names.push(name.to_owned()),
+                _ => {}
+            }
+        }
+    }
+    names
 }
 
 /// The calls that the tables of docs/CALLS.md have in their first column; behind a

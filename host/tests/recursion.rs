@@ -1,29 +1,36 @@
 //! No function calls itself, directly or through others (document 02, No. 4).
 //!
-//! Of a library, the functions for hosts among them, `tools/kit.py mir NAME` prints what is proved and compiled. Every call in it names its
-//! function, and the function is one of these crates'; so these names are the whole graph of calls, and it must have no cycle.
+//! Of a library, the functions for hosts among them, `tools/kit.py mir NAME` prints what is proved and compiled. A call in it names its
+//! function, or a method behind a bound; what stands behind the bounds is passed on by callers, as `common/mir.rs` says. So the calls are
+//! followed from each function of each library, through the kit's libraries too, and what is found is the whole graph of calls. It must
+//! have no cycle. A function of these crates stands in it once, whatever is passed to it, one of the kit once for each list of impls that
+//! it is called with, and where a library's own function is generic and no caller is known, any impl may stand behind its bound.
 //!
 //! Of a program the kit leaves no such thing, but it proves no cycle of calls without a measure, which stands in a folder of the cycle's
-//! own, `proofs/+NAME/`. No crate may have one. The kit's own libraries have cycles, in three modules; each of their functions from which
-//! a chain of calls leads there has one of a few words in its path, and no source has one of these.
+//! own, `proofs/+NAME/`. No crate may have one. For calls on the parts of a value whose type contains itself it needs no folder, so no
+//! crate may have such a type. The kit's own libraries have cycles, in three modules; each of their functions from which a chain of calls
+//! leads there has one of a few words in its path, and no source has one of these.
 //!
 //! So the machine code of each program is looked at as well, with what it has of the kit's library: by the names in it no function calls
-//! itself either, and no call but those of the C library's start goes by an address that is computed. (A call in the last place may have
-//! become a loop there; that is left to the two rules above.)
+//! itself either, and but for the C library's start no call, and no jump but by a table, goes by an address that is computed. (A call in the
+//! last place may have become a loop there; that is left to the two rules above.)
 //!
 //! Where something has changed since it was proved, `tools/kit.py` has it proved first. Let no other `rt` work on the tree meanwhile.
 
+#[path = "common/json.rs"]
+mod json;
+#[path = "common/mir.rs"]
+mod mir;
 #[path = "common/sources.rs"]
 mod sources;
 
+use mir::{Calls, Code};
 use sources::{code, sources};
 use std::collections::{BTreeMap, BTreeSet};
 use std::fs;
 use std::path::{Path, PathBuf};
 use std::process::{Command, Output};
-
-/// Each function, and those that it calls.
-type Calls = BTreeMap<String, BTreeSet<String>>;
+use std::sync::LazyLock;
 
 /// What a command prints. It must succeed.
 fn printed(output: Output) -> String {
@@ -33,37 +40,13 @@ fn printed(output: Output) -> String {
     text
 }
 
-fn mir(repository: &Path, name: &str) -> String {
+fn mir_of(repository: &Path, name: &str) -> String {
     let mut tool = Command::new("tools/kit.py");
     tool.args(["mir", name]).current_dir(repository);
     printed(tool.output().expect("tools/kit.py, by python3"))
 }
 
-/// Adds a crate's calls to `calls`, off its MIR, a list of `["NAME",{"lifetimes":..}]`.
-fn collect(mir: &str, calls: &mut Calls) {
-    assert!(
-        mir.starts_with("[[") || mir == "[]\n",
-        "a list of functions"
-    );
-    let by_name = mir.matches("{\"Call\":[{\"Fn\":[\"").count();
-    assert_eq!(
-        mir.matches("\"Call\"").count(),
-        by_name,
-        "each call names its function"
-    );
-    // Behind a bound an impl's functions are passed on, by no name of theirs.
-    assert_eq!(
-        mir.matches("\"dicts\":[").count(),
-        mir.matches("\"dicts\":[]").count(),
-        "no function is passed on behind a bound"
-    );
-    for (name, text) in definitions(mir) {
-        let called = named(text, "{\"Fn\":[\"").map(Into::into);
-        calls.entry(name.into()).or_default().extend(called);
-    }
-}
-
-/// The functions, each with its text.
+/// The functions of an MIR, a list of `["NAME",{"lifetimes":..}]`, each with its text.
 fn definitions(mir: &str) -> Vec<(&str, &str)> {
     let pieces: Vec<_> = mir.split("\",{\"lifetimes\":").collect();
     let mut found = Vec::new();
@@ -108,29 +91,91 @@ fn cycle(calls: &Calls) -> Option<Vec<String>> {
     }
 }
 
-/// The names of the functions that a crate's sources have.
-fn written(source: &Path) -> Vec<String> {
+/// The names of the functions that a crate's text has.
+fn written(text: &str) -> Vec<String> {
     let mut names = Vec::new();
-    for file in sources(source) {
-        for line in code(&fs::read_to_string(file).unwrap()) {
-            if let Some((_, rest)) = format!(" {line}").split_once(" fn ") {
-                names.push(rest.split(['(', '<']).next().unwrap().into());
-            }
+    for line in text.lines() {
+        if let Some((_, rest)) = format!(" {line}").split_once(" fn ") {
+            names.push(rest.split(['(', '<']).next().unwrap().into());
         }
     }
     names.sort();
     names
 }
 
-/// The names of a crate's functions that were collected.
-fn seen(calls: &Calls, name: &str) -> Vec<String> {
-    let own = format!("{name}::");
-    let own = calls.keys().filter(|function| function.starts_with(&own));
-    let mut names: Vec<String> = own
-        .map(|function| function.rsplit("::").next().unwrap().into())
-        .collect();
+/// The words of a text.
+fn words(text: &str) -> impl Iterator<Item = &str> {
+    let words = text.split(|c: char| !c.is_alphanumeric() && c != '_');
+    words.filter(|word| !word.is_empty())
+}
+
+/// A crate's sources as one text, without comments.
+fn text_of(source: &Path) -> String {
+    let read = |file: &PathBuf| code(&fs::read_to_string(file).unwrap()).join("\n");
+    let texts: Vec<_> = sources(source).iter().map(read).collect();
+    texts.join("\n")
+}
+
+/// The impls that are derived in a text, by their names in the kit: those of the type and of the trait.
+fn derived(text: &str) -> BTreeSet<String> {
+    let mut found = BTreeSet::new();
+    for piece in text.split("#[derive(").skip(1) {
+        let (traits, behind) = piece.split_once(")]").unwrap();
+        let mut behind = words(behind).skip_while(|word| !["struct", "enum"].contains(word));
+        let name = behind.nth(1).expect("a type is behind its derives");
+        found.extend(words(traits).map(|it| format!("{name}{it}")));
+    }
+    found
+}
+
+/// The names of a crate's functions that are in its code, but for those that no source writes: the bodies of closures, what a derive
+/// gives, and what the kit makes of itself, whose names have a `+`.
+fn seen(code: &Code, name: &str, derived: &BTreeSet<String>) -> Vec<String> {
+    let written = |path: &str| {
+        let path = path.strip_suffix("+decl").unwrap_or(path);
+        let (front, last) = path.rsplit_once("::").unwrap();
+        let parent = front.rsplit("::").next().unwrap();
+        let closure = front.split("::").any(|part| part == "fn");
+        let made = closure || path.contains('+') || derived.contains(parent);
+        (!made).then(|| last.to_owned())
+    };
+    let mut names: Vec<_> = code.names(name).filter_map(written).collect();
     names.sort();
     names
+}
+
+/// A declaration of a type from its name on.
+fn declaration(text: &str) -> &str {
+    let mut depth = 0;
+    let end = text.find(|c| {
+        depth += match c {
+            '{' | '(' => 1,
+            '}' | ')' => -1,
+            _ => 0,
+        };
+        depth == 0 && [';', '}'].contains(&c)
+    });
+    &text[..end.expect("a declaration ends")]
+}
+
+/// The types that a crate's text declares, each with those of them that its declaration names.
+fn types(text: &str) -> Calls {
+    let mut declared = Vec::new();
+    for mark in [" struct ", " enum ", "\nstruct ", "\nenum "] {
+        for (at, _) in text.match_indices(mark) {
+            let mut behind = words(declaration(&text[at + mark.len()..]));
+            let name = behind.next().expect("a type has a name");
+            declared.push((name, behind.collect::<Vec<_>>()));
+        }
+    }
+    let names: BTreeSet<_> = declared.iter().map(|(name, _)| *name).collect();
+    let mut found = Calls::new();
+    for (name, body) in declared {
+        let inside = body.into_iter().filter(|word| names.contains(word));
+        let types = found.entry(name.into()).or_default();
+        types.extend(inside.map(String::from));
+    }
+    found
 }
 
 /// The folders in which proofs of cycles of calls stand, and the functions that are named as parts of one.
@@ -199,6 +244,15 @@ fn cycles_of_the_kit() -> BTreeSet<String> {
     found
 }
 
+/// The kit's libraries, as code.
+static KIT_CODE: LazyLock<Code> = LazyLock::new(|| {
+    let mut code = Code::default();
+    for (name, mir) in of_the_kit("mir.json") {
+        code.add(name, &mir, false);
+    }
+    code
+});
+
 #[test]
 #[cfg_attr(not(kit), ignore = "the kit is missing")]
 fn no_function_calls_itself() {
@@ -209,22 +263,27 @@ fn no_function_calls_itself() {
     let names: Vec<&str> = heads
         .map(|(head, _)| head.split(' ').next().unwrap())
         .collect();
-    let mut calls = Calls::new();
-    let mut of_programs = 0;
+    let mut code = KIT_CODE.clone();
+    let (mut functions, mut declared) = (0, 0);
     for name in names {
         let folder = repository.join("crates").join(name);
-        let written = written(&folder.join("src"));
+        let text = text_of(&folder.join("src"));
+        let written = written(&text);
+        functions += written.len();
         assert_eq!(cycles_of(&folder), [""; 0].map(PathBuf::from), "of {name}");
+        let types = types(&text);
+        declared += types.len();
+        assert_eq!(cycle(&types), None, "{name}: a type contains itself");
         if folder.join("src/main.rt").is_file() {
-            of_programs += written.len();
             continue;
         }
-        collect(&mir(&repository, name), &mut calls);
-        assert_eq!(seen(&calls, name), written, "functions of {name}");
+        code.add(name, &mir_of(&repository, name), true);
+        let seen = seen(&code, name, &derived(&text));
+        assert_eq!(seen, written, "functions of {name}");
     }
-    let seen = calls.len() + of_programs;
-    assert!(seen > 600, "only {seen} functions");
-    assert_eq!(cycle(&calls), None, "a cycle of calls");
+    assert!(functions > 400, "only {functions} functions");
+    assert!(declared > 60, "only {declared} types");
+    assert_eq!(cycle(&code.calls()), None, "a cycle of calls");
 }
 
 /// The kit's functions from which a chain of calls may lead to one of these modules. A function may call each function that it names, and
@@ -296,9 +355,12 @@ fn no_cycle_of_the_kit_is_named() {
 fn disassembled(text: &str, calls: &mut Calls) -> BTreeSet<String> {
     let mut computed = BTreeSet::new();
     let mut function = String::new();
+    // The last instruction that has written each register.
+    let mut written = BTreeMap::new();
     for line in text.lines() {
         if let Some((_, name)) = line.strip_suffix(">:").and_then(|it| it.split_once(" <")) {
             function = name.into();
+            written.clear();
             calls.entry(function.clone()).or_default();
             continue;
         }
@@ -307,6 +369,11 @@ fn disassembled(text: &str, calls: &mut Calls) -> BTreeSet<String> {
         };
         let jump = instruction.starts_with('j');
         if !jump && !instruction.starts_with("call") {
+            let name = instruction.split_whitespace().next().unwrap_or_default();
+            let place = instruction.rsplit([',', ' ', '\t']).next().unwrap();
+            if !name.starts_with("cmp") && !name.starts_with("test") {
+                written.insert(place, name);
+            }
             continue;
         }
         // A jump that leaves its function is a call in the last place.
@@ -323,10 +390,12 @@ fn disassembled(text: &str, calls: &mut Calls) -> BTreeSet<String> {
                 }
             }
             _ if jump && !instruction.contains('*') => panic!("{function}: {instruction}"),
-            // A jump by a table of the function's own is no call, and the stubs of the dynamic linker jump out of the program.
-            _ if jump => {}
             _ => {
-                computed.insert(function.clone());
+                // A jump by a table of the function's own is no call: there the place in the table is added to the table's address.
+                let to = instruction.split_once('*').unwrap().1;
+                if !jump || written.get(to) != Some(&"add") {
+                    computed.insert(function.clone());
+                }
             }
         }
     }
@@ -408,6 +477,117 @@ fn a_recursion_in_machine_code_is_seen() {
     );
     let computed = ["0000000000001050 <by>:", "    1050:\tcall   *%rax"];
     assert_eq!(found(&[&both[..], &computed[..]].concat()).1, ["by"]);
+    let last = [
+        "0000000000001060 <last>:",
+        "    1060:\tmov    0x18(%rsi),%rax",
+        "    1064:\tcmp    %rdi,%rax",
+        "    1067:\tjmp    *%rax",
+    ];
+    assert_eq!(found(&last).1, ["last"]);
+    let table = [
+        "0000000000001070 <table>:",
+        "    1070:\tmovslq (%rcx,%rax,4),%rax",
+        "    1074:\tadd    %rcx,%rax",
+        "    1077:\tjmp    *%rax",
+    ];
+    assert_eq!(found(&table).1, [""; 0]);
+    let memory = [
+        "0000000000001080 <memory>:",
+        "    1080:\tjmp    *0x18(%rsi)",
+    ];
+    assert_eq!(found(&memory).1, ["memory"]);
+}
+
+/// A function of an MIR: its name, the trait or impl that it is a method of, the traits of its bounds, and its calls.
+fn function(name: &str, method_of: &str, bounds: &[&str], calls: &[&str]) -> String {
+    let bounds: Vec<_> = bounds
+        .iter()
+        .map(|of| format!(r#"{{"of":"{of}"}}"#))
+        .collect();
+    let calls: Vec<_> = calls
+        .iter()
+        .map(|call| format!(r#"{{"Call":[{call},[],0]}}"#))
+        .collect();
+    let (bounds, calls) = (bounds.join(","), calls.join(","));
+    format!(
+        r#"["{name}",{{"generics":{{"bounds":[{bounds}],"method_of":{method_of},"impls":[]}},"body":["Seq",{calls}]}}]"#
+    )
+}
+
+/// The same on code that has recursions, without the kit: `f` is generic over the trait `T` of `low`, or over closures.
+#[test]
+fn a_recursion_behind_a_bound_is_seen() {
+    let call = |name: &str, impls: &[&str]| {
+        let impls: Vec<_> = impls
+            .iter()
+            .map(|name| format!(r#"{{"Impl":["{name}",[],[]]}}"#))
+            .collect();
+        format!(
+            r#"{{"Fn":["{name}",{{"types":[],"dicts":[{}]}}]}}"#,
+            impls.join(",")
+        )
+    };
+    let impls = [
+        r#"{"name":"low::AT","methods":["low::AT::m"]}"#,
+        r#"{"name":"low::C","methods":["low::C::call_once"]}"#,
+        r#"{"name":"low::D","methods":["low::D::call_once"]}"#,
+    ];
+    let behind = r#"{"Method":[{"Given":0},0,{"types":[],"dicts":[]}]}"#;
+    let once = "core::FnOnce";
+    let found = |a: &[&str], b: &[&str], c: &[&str], d: &[&str], top: &[&str]| {
+        let low = [
+            function("low::T::m+decl", r#"{"Trait":["low::T",0]}"#, &[], &[]),
+            function("low::AT::m", r#"{"Impl":["low::AT",0]}"#, &[], a),
+            function("low::BT::m", r#"{"Impl":["low::BT",0]}"#, &[], b),
+            function("low::C::call_once", r#"{"Impl":["low::C",0]}"#, &[], c),
+            function("low::D::call_once", r#"{"Impl":["low::D",0]}"#, &[], d),
+            function("low::f", "null", &["low::T"], &[behind]),
+            function("low::end", "null", &[], &[]),
+            function("low::top", "null", &[], top),
+        ];
+        let low = low.join(",").replacen(
+            r#""impls":[]"#,
+            &format!(r#""impls":[{}]"#, impls.join(",")),
+            1,
+        );
+        let map = function("core::map", "null", &[once], &[behind]);
+        let mut code = Code::default();
+        code.add("core", &format!("[{map}]\n"), false);
+        code.add("low", &format!("[{low}]\n"), true);
+        cycle(&code.calls()).map_or("none".into(), |path| path.join(" "))
+    };
+    let end = &call("low::end", &[])[..];
+    let (f, map_c) = (
+        &call("low::f", &["low::AT"])[..],
+        &call("core::map", &["low::C"])[..],
+    );
+    let (map_d, top) = (
+        &call("core::map", &["low::D"])[..],
+        &call("low::top", &[])[..],
+    );
+    assert_eq!(found(&[end], &[end], &[end], &[end], &[f, map_c]), "none");
+    // A closure that passes another one to the same function of the kit.
+    assert_eq!(found(&[end], &[end], &[map_d], &[end], &[map_c]), "none");
+    let path = "low::AT::m low::f low::AT::m";
+    assert_eq!(found(&[f], &[end], &[end], &[end], &[end]), path);
+    // An impl that is passed on nowhere.
+    let path = "low::BT::m low::f low::BT::m";
+    assert_eq!(found(&[end], &[f], &[end], &[end], &[end]), path);
+    let path = "core::map<low::C> low::C::call_once low::top core::map<low::C>";
+    assert_eq!(found(&[end], &[end], &[top], &[end], &[map_c]), path);
+    let path =
+        "core::map<low::C> low::C::call_once core::map<low::D> low::D::call_once core::map<low::C>";
+    assert_eq!(found(&[end], &[end], &[map_d], &[map_c], &[end]), path);
+}
+
+#[test]
+#[should_panic = "low::f: a call that names no function: CallV"]
+fn a_call_by_an_address_is_seen() {
+    let text = function("low::f", "null", &[], &[]);
+    let text = text.replace(r#""Seq","#, r#""Seq",{"CallV":[0,[],0]}"#);
+    let mut code = Code::default();
+    code.add("low", &format!("[{text}]"), true);
+    code.calls();
 }
 
 /// A tree with one library, `low`, whose proofs are those files.
@@ -441,9 +621,9 @@ impl Tree {
         let made = self
             .0
             .join("crates/low/out/rlib/low.rlib/toolchain/mir.json");
-        let mut calls = Calls::new();
-        collect(&fs::read_to_string(made).unwrap(), &mut calls);
-        cycle(&calls).map_or("none".into(), |path| path.join(" "))
+        let mut code = KIT_CODE.clone();
+        code.add("low", &fs::read_to_string(made).unwrap(), true);
+        cycle(&code.calls()).map_or("none".into(), |path| path.join(" "))
     }
 
     /// What is said where it is not proved.
@@ -465,7 +645,13 @@ impl Drop for Tree {
 /// The measures of functions of a cycle, whose proofs stand in a folder.
 fn measures<'a>(folder: &'a str, measures: &[(&str, &str)]) -> (&'a str, String) {
     let module = folder.replace('/', ".");
-    let mut text = format!("use Rattle.low.proofs.{module}.Given as goal\n");
+    let sum = measures.iter().any(|(_, measure)| measure.contains('+'));
+    let sum = if sum {
+        "use Rattle.std.specs.Prelude.{◌+◌}\n"
+    } else {
+        ""
+    };
+    let mut text = format!("{sum}use Rattle.low.proofs.{module}.Given as goal\n");
     for (name, measure) in measures {
         text += &format!(
             "\nabbrev pub decreases-{name} : goal.decreases-{name}\ndecreases-{name} l = {measure}\n"
@@ -481,6 +667,15 @@ const EVEN: &str = "fn even(n: u32) -> bool { if n == 0 { true } else { odd(n - 
 const ODD: &str = "fn odd(n: u32) -> bool { if n == 0 { false } else { even(n - 1) } }\n";
 const METHOD: &str = "#[derive(Clone, Copy)]\npub struct Count { n: u32 }\nimpl Count { pub fn end(self) -> u32 { if self.n == 0 { 0 } else { Count { n: self.n - 1 }.end() } } }\n";
 
+// A method behind a bound leads back. The kit wants no measure, since each turn goes to a part of the value.
+const BEHIND: &str = "pub struct Node<'a> { next: Option<&'a Node<'a>> }\npub trait Count { fn end(&self) -> u32; }\nimpl<T: Count> Count for &T { fn end(&self) -> u32 { (**self).end() } }\nimpl<'a> Count for Node<'a> { fn end(&self) -> u32 { match &self.next { Some(node) => node.end(), None => 0 } } }\n";
+// An impl's method leads back by a function that is generic.
+const IMPL: &str = "pub trait Ends: Copy { fn end(self) -> u32; }\nimpl Ends for u32 { fn end(self) -> u32 { if self == 0 { 0 } else { tally(self - 1) } } }\npub fn tally<T: Ends>(x: T) -> u32 { x.end() }\n";
+// A closure leads back, by a function of the tree and one of the kit.
+const CLOSURE: &str = "pub fn fall(n: u32) -> u32 { let below = || -> u32 { if n == 0 { 0 } else { fall(n - 1) } }; called(below) }\nfn called<F: FnOnce() -> u32>(f: F) -> u32 requires { F.pre f } { true.then(f).unwrap_or(0) }\n";
+// Bounds and closures, and no function that calls itself.
+const SOUND: &str = "pub trait Ends: Copy { fn end(self) -> u32; }\nimpl Ends for u32 { fn end(self) -> u32 { third(self) } }\nimpl Ends for u8 { fn end(self) -> u32 { u32::from(self) } }\npub fn tally<T: Ends>(x: T) -> u32 { true.then(|| x.end()).unwrap_or(0) }\npub fn last(n: u32) -> u32 { tally(n) }\npub fn ninth(n: u32) -> u32 { Some(n).map(|n| third(n)).unwrap_or(0) }\nfn third(n: u32) -> u32 { Some(n).map(|n| n / 3).unwrap_or(0) }\n";
+
 /// The same on trees that have recursions.
 #[test]
 #[cfg_attr(not(kit), ignore = "the kit is missing")]
@@ -491,7 +686,7 @@ fn a_recursion_is_seen() {
         assert_eq!(cycles.is_empty(), proofs.is_empty());
         tree.cycle()
     };
-    assert_eq!(found("none", TWICE, &[]), "none");
+    assert_eq!(found("none", &format!("{TWICE}{SOUND}"), &[]), "none");
     let down = measures("+down", &[("down", "l.n")]);
     assert_eq!(
         found("down", &(TWICE.to_owned() + DOWN), &[down]),
@@ -508,6 +703,18 @@ fn a_recursion_is_seen() {
         found("method", METHOD, &[end]),
         "low::Count::end low::Count::end"
     );
+    assert_eq!(
+        found("behind", BEHIND, &[]),
+        "low::NodeCount::end low::RefCount::end low::NodeCount::end"
+    );
+    assert_eq!(cycle(&types(BEHIND)), Some(vec!["Node".into(); 2]));
+    let turns = [("fall", "1 + l.n + l.n"), ("below", "l.n + l.n")];
+    let fall = measures("+fall+fn-fall-below", &turns);
+    assert_eq!(
+        found("closure", CLOSURE, &[fall]),
+        "core::bool::then<low::fn::fall::below+FnOnce,low::Destruct++none> low::fn::fall::below+FnOnce::call_once \
+         low::fn::fall::below low::fall low::called core::bool::then<low::fn::fall::below+FnOnce,low::Destruct++none>"
+    );
 }
 
 /// The kit's rule, by which the programs have no recursion.
@@ -517,13 +724,17 @@ fn a_recursion_without_a_folder_of_its_own_is_not_proved() {
     let both = Tree::new("unnamed", &format!("{TWICE}{EVEN}{ODD}"), &[]);
     let said = both.refused();
     assert!(said.contains("error[unnamed-cycle]"), "{said}");
-    let source = format!("{TWICE}{DOWN}#[cycle(parity)]\n{EVEN}#[cycle(parity)]\n{ODD}{METHOD}");
+    let parity = format!("#[cycle(parity)]\n{EVEN}#[cycle(parity)]\n{ODD}");
+    let source = format!("{TWICE}{DOWN}{parity}{METHOD}{CLOSURE}{IMPL}");
     let said = Tree::new("unmeasured", &source, &[]).refused();
+    let line = "a method of the block `low::U32Ends` leads back to this function";
+    assert!(said.contains(line), "{said}");
     for (name, folder) in [
         ("down", "+down"),
         ("even", "+parity"),
         ("odd", "+parity"),
         ("Count::end", "Count/+end"),
+        ("fall", "+fall+fn-fall-below"),
     ] {
         let line = format!(
             "fn low::{name}: no proof: expected a measure in ./proofs/{folder}/Invariants.antt"

@@ -15,7 +15,7 @@ use Rattle.manual.specs.declared.Register.TheVariants.{DMR1, CCR, FCR, FSR, TCR,
 use Rattle.manual.specs.Manual.{offset_of}
 use Rattle.sequences.specs.declared.access.Access.{Access}
 use Rattle.sequences.specs.declared.access.Access.TheVariants.{Read, Write, Send, Receive, Done}
-use Rattle.sequences.specs.declared.access.Ending.{Ending}
+use Rattle.sequences.specs.Access.{Ending}
 use Rattle.machine.specs.declared.flush.Flush.{Flush}
 use Rattle.machine.specs.declared.flush.Flush.TheVariants.{Status, Sizes, Counts, Ended as Flushed}
 use Rattle.sequences.specs.declared.sequence.Sequence.{Sequence}
@@ -73,7 +73,7 @@ answer_of_entry word (Read r) v h = rw (lt-ltb (offset_of r) 0x1000 (offset_low 
 answer_of_entry word (Write r w) v h = rw (le-ltb (0x1000 + offset_of r) 0x1000 (omega arith))
 answer_of_entry word (Send i) v h = refl
 answer_of_entry word (Receive i) v h = refl
-answer_of_entry word (Done e) v h = absurd (let z : ◌≡◌ {A = ℕ} 0 1 = cc in omega arith)
+answer_of_entry word (Done e) v h = absurd (grind arith)
 
 answers_last : (log : List Logged) (l : Logged) → answers_in (log ++ (l ∷ [])) ≡ answers_in log ++ answer_in l
 unfolding answers_in
@@ -97,7 +97,7 @@ module _ {M : Type 0} (next : M → Access) (resume : M → ℕ → M) (words : 
   step_makes (Send i) v m xs log rs e h = rw (e, append-nil xs, add-zero (length xs))
   step_makes (Receive i) v m xs log rs e h =
       rw (e, length-append xs (v ∷ []), lt-leb (length xs + 1) (length xs) (omega arith), get_or-append_seam xs v [] 0)
-  step_makes (Done x) v m xs log rs e h = absurd (let z : ◌≡◌ {A = ℕ} 0 1 = cc in omega arith)
+  step_makes (Done x) v m xs log rs e h = absurd (grind arith)
 
   -- a run that made the accesses of a log makes the one that is due next, whatever it is answered
   makes_next : (a : Access) (v : ℕ) (m₀ m : M) (log : List Logged) (rs : List ℕ) → next m ≡ a → ended a ≡ false

@@ -15,7 +15,7 @@ use Rattle.words.proofs.WordLaws.{Elements}
 use Rattle.words.proofs.BufferLaws.{tabulate_same}
 use Rattle.manual.specs.declared.Register.TheVariants.{TCR}
 use Rattle.sequences.specs.declared.access.Access.TheVariants.{Write, Send, Receive, Done}
-use Rattle.sequences.specs.declared.access.Ending.TheVariants.{Ok}
+use Rattle.std.specs.Prelude.{Ok}
 use Rattle.machine.specs.Transfer.{due_access}
 use Rattle.agreement.specs.declared.event.Event.{Event}
 use Rattle.agreement.specs.declared.event.Side.TheVariants.{Gate, Antenna}
@@ -28,7 +28,7 @@ use Rattle.agreement.proofs.EndFacts.{own, ok_unhurt, ok_empty, ok_received}
 use Rattle.agreement.proofs.EndFacts.{receives_below, sends_below, command_alone, shallow_empty}
 use Rattle.agreement.proofs.PairFacts.{Both, both_after}
 use Rattle.agreement.proofs.FinishFacts.{finish}
-use Rattle.agreement.proofs.WordLists.{nil_of}
+use Rattle.std.proofs.lemmas.List.{nil_from_length}
 use Rattle.agreement.proofs.StartFacts.{read_within, own_words, keeps, good_fresh, laid_words, Fit, fit}
 
 -- a list of events, and then more
@@ -169,7 +169,7 @@ module _ (g a : Start) (f : Fit g a) (vs : List Event) where
   gate_command_first v h =
       let k = known in
       let x = after_all.gate in
-      nil_of x.wire.transmit
+      nil_from_length x.wire.transmit
       (command_alone n accepts (job g) (own (job a)) k.0 k.0 (tally Antenna g a vs).made_up (tally Gate g a vs)
       x.transfer.phase x.transfer.work x.transfer.reset x.flush x.received x.wire v
       k.1.gate.now h)
@@ -179,19 +179,19 @@ module _ (g a : Start) (f : Fit g a) (vs : List Event) where
   antenna_command_first v h =
       let k = known in
       let x = after_all.antenna in
-      nil_of x.wire.transmit
+      nil_from_length x.wire.transmit
       (command_alone n accepts (job a) (own (job g)) k.0 k.0 0 (tally Antenna g a vs) x.transfer.phase
       x.transfer.work x.transfer.reset x.flush x.received x.wire v k.1.antenna.now h)
 
   -- THE BOUND OF (c) IS SHARP: with exponent 0 a transfer answers Ok only where there is no word to send
-  pub gate_shallow : g.board.exponent ≡ 0 → due_access after_all.gate.transfer ≡ Done Ok → frame_words g ≡ 0
+  pub gate_shallow : g.board.exponent ≡ 0 → due_access after_all.gate.transfer ≡ Done (Ok tt) → frame_words g ≡ 0
   gate_shallow l h =
       let k = known in
       let x = after_all.gate in
       shallow_empty n accepts (job g) (own (job a)) k.0 k.0 (tally Antenna g a vs).made_up (tally Gate g a vs)
       x.transfer.phase x.transfer.work x.transfer.reset x.flush x.received x.wire k.1.gate.now h l
 
-  pub antenna_shallow : a.board.exponent ≡ 0 → due_access after_all.antenna.transfer ≡ Done Ok → frame_words a ≡ 0
+  pub antenna_shallow : a.board.exponent ≡ 0 → due_access after_all.antenna.transfer ≡ Done (Ok tt) → frame_words a ≡ 0
   antenna_shallow l h =
       let k = known in
       let x = after_all.antenna in

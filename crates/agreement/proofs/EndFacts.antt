@@ -21,14 +21,14 @@ use Rattle.words.specs.declared.transaction.Direction.TheVariants.{Tx, Rx}
 use Rattle.words.specs.declared.transaction.LpspiError.TheVariants.{FrameSize, Fifo}
 use Rattle.sequences.specs.declared.access.Access.{Access}
 use Rattle.sequences.specs.declared.access.Access.TheVariants.{Read, Write, Send as SendWord, Receive as ReceiveWord, Done}
-use Rattle.sequences.specs.declared.access.Ending.{Ending}
-use Rattle.sequences.specs.declared.access.Ending.TheVariants.{Ok, Err, Stopped, Limits, ZeroClock, FifoExponent}
+use Rattle.sequences.specs.Access.{Ending}
+use Rattle.std.specs.Prelude.{Ok, Err}
+use Rattle.sequences.specs.declared.access.RunError.TheVariants.{Driver, Stopped, Limits, ZeroClock, FifoExponent}
 use Rattle.machine.specs.declared.flush.Flush.{Flush}
 use Rattle.machine.specs.declared.flush.Flush.TheVariants.{Status as FlushStatus, Sizes as FlushSizes, Counts as FlushCounts}
 use Rattle.machine.specs.declared.flush.Flush.TheVariants.{Ended as Flushed}
 use Rattle.machine.specs.declared.poll.Poll.{Poll}
 use Rattle.machine.specs.declared.poll.Poll.TheVariants.{Status, Sizes, Counts}
-use Rattle.machine.specs.declared.poll.Polled.{Polled}
 use Rattle.machine.specs.declared.poll.Polled.TheVariants.{Failed, Next, Ready, Unready}
 use Rattle.sequences.specs.declared.sequence.Sequence.{Sequence}
 use Rattle.machine.specs.declared.transfer.Stage.{Stage}
@@ -55,7 +55,9 @@ use Rattle.agreement.specs.Agreement.{OkTwice, Emptied, seen}
 use Rattle.agreement.proofs.ShownLaws.{shows_t, shows_r, shows_fit, shows_depth, shows_transmit, shows_receive}
 use Rattle.agreement.proofs.ShownLaws.{below_capacity, capacity_small}
 use Rattle.agreement.proofs.WordLists.{from, length_snoc, snoc_is, uncons, length_behind, emptied_less}
-use Rattle.agreement.proofs.WordLists.{emptied_is, lowered_set, false_true, nil_of, all_from}
+use Rattle.agreement.proofs.WordLists.{emptied_is, lowered_set, all_from}
+use Rattle.std.proofs.lemmas.Bool.{cond_both, false≢true}
+use Rattle.std.proofs.lemmas.List.{nil_from_length}
 use Rattle.agreement.proofs.QueueLaws.{AtFront, words_most, words_snoc, more_words, front_snoc, command_only, emptied_words}
 use Rattle.agreement.proofs.RecoveryFacts.{silent, Quiet, recovery_quiet}
 
@@ -76,20 +78,20 @@ quiet_sends : (a : Access) {i : ℕ} → Quiet a → a ≡ SendWord i → ⊥
 quiet_sends a {i} h e = subst (λ (x : Access). Quiet x) e h
 
 read_sends : {r : Register} {i : ℕ} → Read r ≡ SendWord i → ⊥
-read_sends h = let z : ◌≡◌ {A = ℕ} 0 1 = cc in omega arith
+read_sends h = grind arith
 
 write_sends : {r : Register} {v i : ℕ} → Write r v ≡ SendWord i → ⊥
-write_sends h = let z : ◌≡◌ {A = ℕ} 0 1 = cc in omega arith
+write_sends h = grind arith
 
 done_sends : {x : Ending} {i : ℕ} → Done x ≡ SendWord i → ⊥
-done_sends h = let z : ◌≡◌ {A = ℕ} 0 1 = cc in omega arith
+done_sends h = grind arith
 
 -- accesses that write nothing
 read_writes : {r s : Register} {v : ℕ} → Read r ≡ Write s v → ⊥
-read_writes h = let z : ◌≡◌ {A = ℕ} 0 1 = cc in omega arith
+read_writes h = grind arith
 
 done_writes : {x : Ending} {r : Register} {v : ℕ} → Done x ≡ Write r v → ⊥
-done_writes h = let z : ◌≡◌ {A = ℕ} 0 1 = cc in omega arith
+done_writes h = grind arith
 
 -- the place of a word that is sent
 place : Access → ℕ
@@ -104,16 +106,16 @@ not_quiet : (a : Access) {i : ℕ} → Quiet a → a ≡ ReceiveWord i → ⊥
 not_quiet a {i} h e = subst (λ (x : Access). Quiet x) e h
 
 not_read : {r : Register} {i : ℕ} → Read r ≡ ReceiveWord i → ⊥
-not_read h = let z : ◌≡◌ {A = ℕ} 0 1 = cc in omega arith
+not_read h = grind arith
 
 not_sent : {j i : ℕ} → SendWord j ≡ ReceiveWord i → ⊥
-not_sent h = let z : ◌≡◌ {A = ℕ} 0 1 = cc in omega arith
+not_sent h = grind arith
 
 not_written : {r : Register} {v i : ℕ} → Write r v ≡ ReceiveWord i → ⊥
-not_written h = let z : ◌≡◌ {A = ℕ} 0 1 = cc in omega arith
+not_written h = grind arith
 
 not_done : {x : Ending} {i : ℕ} → Done x ≡ ReceiveWord i → ⊥
-not_done h = let z : ◌≡◌ {A = ℕ} 0 1 = cc in omega arith
+not_done h = grind arith
 
 module _ (n : ℕ) (accepts : Bool) (j : Job) (other : ℕ → ℕ) where
   -- WHILE A TRANSFER GOES ON, or once it has answered Ok. t: clocks, as the transmit queue counts them; c: as the receive queue does; m:
@@ -144,13 +146,13 @@ module _ (n : ℕ) (accepts : Bool) (j : Job) (other : ℕ → ℕ) where
   NowFlush FlushStatus t c m τ k rs w = Core t c m τ k rs w × (k.sent ≡ n) × (length rs ≡ n)
   NowFlush FlushSizes t c m τ k rs w = Core t c m τ k rs w × (k.sent ≡ n) × (length rs ≡ n)
   NowFlush FlushCounts t c m τ k rs w = Core t c m τ k rs w × (k.sent ≡ n) × (length rs ≡ n)
-  NowFlush (Flushed Ok) t c m τ k rs w = Core t c m τ k rs w × (k.sent ≡ n) × (length rs ≡ n) × (length w.transmit ≡ 0)
-  NowFlush (Flushed (Err FrameSize)) t c m τ k rs w = ⊥
-  NowFlush (Flushed (Err (Fifo d))) t c m τ k rs w = Core t c m τ k rs w × (k.sent ≡ n) × (length rs ≡ n) × (0 < τ.flags)
-  NowFlush (Flushed Stopped) t c m τ k rs w = ⊥
-  NowFlush (Flushed Limits) t c m τ k rs w = ⊥
-  NowFlush (Flushed ZeroClock) t c m τ k rs w = ⊥
-  NowFlush (Flushed FifoExponent) t c m τ k rs w = ⊥
+  NowFlush (Flushed (Ok u)) t c m τ k rs w = Core t c m τ k rs w × (k.sent ≡ n) × (length rs ≡ n) × (length w.transmit ≡ 0)
+  NowFlush (Flushed (Err (Driver FrameSize))) t c m τ k rs w = ⊥
+  NowFlush (Flushed (Err (Driver (Fifo d)))) t c m τ k rs w = Core t c m τ k rs w × (k.sent ≡ n) × (length rs ≡ n) × (0 < τ.flags)
+  NowFlush (Flushed (Err Stopped)) t c m τ k rs w = ⊥
+  NowFlush (Flushed (Err Limits)) t c m τ k rs w = ⊥
+  NowFlush (Flushed (Err ZeroClock)) t c m τ k rs w = ⊥
+  NowFlush (Flushed (Err FifoExponent)) t c m τ k rs w = ⊥
 
   -- what is known in each phase
   abbrev pub Now : Stage → Flush → ℕ → ℕ → ℕ → Tally → Work → List ℕ → Wire → Type 0
@@ -164,13 +166,13 @@ module _ (n : ℕ) (accepts : Bool) (j : Job) (other : ℕ → ℕ) where
   Now (Receiving q) f t c m τ k rs w = Core t c m τ k rs w × (f ≡ FlushStatus) × (length rs < n) × Begun k w
   Now Receive f t c m τ k rs w = Core t c m τ k rs w × (f ≡ FlushStatus) × (length rs < n) × (0 < length w.receive) × Begun k w
   Now (Recovery d) f t c m τ k rs w = 0 < τ.flags
-  Now (Ended Ok) f t c m τ k rs w = NowFlush f t c m τ k rs w
-  Now (Ended (Err FrameSize)) f t c m τ k rs w = accepts ≡ false
-  Now (Ended (Err (Fifo d))) f t c m τ k rs w = 0 < τ.flags
-  Now (Ended Stopped) f t c m τ k rs w = ⊥
-  Now (Ended Limits) f t c m τ k rs w = ⊥
-  Now (Ended ZeroClock) f t c m τ k rs w = ⊥
-  Now (Ended FifoExponent) f t c m τ k rs w = ⊥
+  Now (Ended (Ok u)) f t c m τ k rs w = NowFlush f t c m τ k rs w
+  Now (Ended (Err (Driver FrameSize))) f t c m τ k rs w = accepts ≡ false
+  Now (Ended (Err (Driver (Fifo d)))) f t c m τ k rs w = 0 < τ.flags
+  Now (Ended (Err Stopped)) f t c m τ k rs w = ⊥
+  Now (Ended (Err Limits)) f t c m τ k rs w = ⊥
+  Now (Ended (Err ZeroClock)) f t c m τ k rs w = ⊥
+  Now (Ended (Err FifoExponent)) f t c m τ k rs w = ⊥
 
   -- what is known in all of them
   pub record Base (t : ℕ) (τ : Tally) (w : Wire) : Type 0 where
@@ -221,26 +223,9 @@ module _ (n : ℕ) (accepts : Bool) (j : Job) (other : ℕ → ℕ) where
     abbrev At : Stage → Flush → Work → List ℕ → Wire → Type 0
     At p f k rs w = Now p f c c m τ k rs w
 
-    now_cond : (y : Bool) (p q : Stage) (f : Flush) (k : Work) (rs : List ℕ) (w : Wire) → (y ≡ true → At p f k rs w)
-        → (y ≡ false → At q f k rs w) → At (cond y p q) f k rs w
-    now_cond true p q f k rs w g h = g refl
-    now_cond false p q f k rs w g h = h refl
-
-    now_polled : (F : Polled → Stage) (y : Bool) (p q : Polled) (f : Flush) (k : Work) (rs : List ℕ) (w : Wire)
-        → (y ≡ true → At (F p) f k rs w) → (y ≡ false → At (F q) f k rs w)
-        → At (F (cond y p q)) f k rs w
-    now_polled F true p q f k rs w g h = g refl
-    now_polled F false p q f k rs w g h = h refl
-
-    now_flush : (y : Bool) (p q : Flush) (k : Work) (rs : List ℕ) (w : Wire) → (y ≡ true → NowFlush p c c m τ k rs w)
-        → (y ≡ false → NowFlush q c c m τ k rs w)
-        → NowFlush (cond y p q) c c m τ k rs w
-    now_flush true p q k rs w g h = g refl
-    now_flush false p q k rs w g h = h refl
-
     -- THE TURNS
     all_done : (f : Flush) (k : Work) (rs : List ℕ) (w : Wire) → c ≤ n → f ≡ FlushStatus → Core c c m τ k rs w
-        → k.send ≤ k.sent → k.receive ≤ k.received → At (Ended Ok) f k rs w
+        → k.send ≤ k.sent → k.receive ≤ k.received → At (Ended (Ok tt)) f k rs w
     all_done f k rs w l e x hs hr =
         subst (λ (g : Flush). NowFlush g c c m τ k rs w) (sym e)
         (x, omega (arith, x.to_send, x.most), omega (arith, x.to_receive, x.taken, x.in_eq))
@@ -248,20 +233,20 @@ module _ (n : ℕ) (accepts : Bool) (j : Job) (other : ℕ → ℕ) where
     pub now_receive_turn : (f : Flush) (k : Work) (rs : List ℕ) (w : Wire) → c ≤ n → f ≡ FlushStatus → Core c c m τ k rs w
         → Begun k w → At (receive_turn k) f k rs w
     now_receive_turn f k rs w l e x b =
-        now_cond (ltb k.received k.receive) (Receiving Status) (cond (ltb k.sent k.send) (Sending Status) (Ended Ok)) f k rs w
+        cond_both (ltb k.received k.receive) (Receiving Status) (cond (ltb k.sent k.send) (Sending Status) (Ended (Ok tt))) (λ it. At it f k rs w)
         (λ h. (x, e, omega (arith, ltb-true k.received k.receive h, x.taken, x.to_receive), b))
         (λ h.
-        now_cond (ltb k.sent k.send) (Sending Status) (Ended Ok) f k rs w
+        cond_both (ltb k.sent k.send) (Sending Status) (Ended (Ok tt)) (λ it. At it f k rs w)
         (λ h'. (x, e, tt, omega (arith, ltb-true k.sent k.send h', x.to_send), b))
         (λ h'. all_done f k rs w l e x (ltb-false k.sent k.send h') (ltb-false k.received k.receive h)))
 
     pub now_send_turn : (f : Flush) (k : Work) (rs : List ℕ) (w : Wire) → c ≤ n → f ≡ FlushStatus → Core c c m τ k rs w
         → Begun k w → At (send_turn k) f k rs w
     now_send_turn f k rs w l e x b =
-        now_cond (ltb k.sent k.send) (Sending Status) (cond (ltb k.received k.receive) (Receiving Status) (Ended Ok)) f k rs w
+        cond_both (ltb k.sent k.send) (Sending Status) (cond (ltb k.received k.receive) (Receiving Status) (Ended (Ok tt))) (λ it. At it f k rs w)
         (λ h. (x, e, tt, omega (arith, ltb-true k.sent k.send h, x.to_send), b))
         (λ h.
-        now_cond (ltb k.received k.receive) (Receiving Status) (Ended Ok) f k rs w
+        cond_both (ltb k.received k.receive) (Receiving Status) (Ended (Ok tt)) (λ it. At it f k rs w)
         (λ h'. (x, e, omega (arith, ltb-true k.received k.receive h', x.taken, x.to_receive), b))
         (λ h'. all_done f k rs w l e x (ltb-false k.sent k.send h) (ltb-false k.received k.receive h')))
 
@@ -469,29 +454,26 @@ module _ (n : ℕ) (accepts : Bool) (j : Job) (other : ℕ → ℕ) where
 
     keep_flush : (busy : Bool) (k : Work) (q : Sequence) (f : Flush) (rs : List ℕ) (w : Wire) (g : List ℕ) → Base c τ w
         → NowFlush f c c m τ k rs w
-        → Good c c m τ (stepped j busy (end (at (Ended Ok) k q) f rs w g))
+        → Good c c m τ (stepped j busy (end (at (Ended (Ok tt)) k q) f rs w g))
     unfolding stepped due_access resumed
     keep_flush y k q FlushStatus rs w g B N = record {
       base = B;
       now =
           let v = shows j.exponent y w g SR in
-          now_flush (eqb (read_field (Sr REF) v) 1) (Flushed (Err (Fifo Rx)))
-          (cond (eqb (read_field (Sr TEF) v) 1) (Flushed (Err (Fifo Tx)))
-          (cond (eqb (read_field (Sr MBF) v) 1) FlushStatus FlushSizes))
-          k rs w
+          cond_both (eqb (read_field (Sr REF) v) 1) (Flushed (Err (Driver (Fifo Rx)))) (cond (eqb (read_field (Sr TEF) v) 1) (Flushed (Err (Driver (Fifo Tx))))
+          (cond (eqb (read_field (Sr MBF) v) 1) FlushStatus FlushSizes)) (λ it. NowFlush it c c m τ k rs w)
           (λ h. (N.0, N.1, N.2, B.set_r (sym (shown_r y w g) ∙ h)))
           (λ h.
-          now_flush (eqb (read_field (Sr TEF) v) 1) (Flushed (Err (Fifo Tx)))
-          (cond (eqb (read_field (Sr MBF) v) 1) FlushStatus FlushSizes) k rs w
+          cond_both (eqb (read_field (Sr TEF) v) 1) (Flushed (Err (Driver (Fifo Tx)))) (cond (eqb (read_field (Sr MBF) v) 1) FlushStatus FlushSizes) (λ it. NowFlush it c c m τ k rs w)
           (λ h'. (N.0, N.1, N.2, B.set_t (sym (shown_t y w g) ∙ h')))
-          (λ h'. now_flush (eqb (read_field (Sr MBF) v) 1) FlushStatus FlushSizes k rs w (λ h''. N) (λ h''. N)));
+          (λ h'. cond_both (eqb (read_field (Sr MBF) v) 1) FlushStatus FlushSizes (λ it. NowFlush it c c m τ k rs w) (λ h''. N) (λ h''. N)));
     }
     keep_flush y k q FlushSizes rs w g B N = rw (shown_fit y w g) (record { base = B; now = N })
     keep_flush y k q FlushCounts rs w g B N = record {
       base = B;
       now =
           let v = shows j.exponent y w g FSR in
-          now_flush (eqb (read_field (Fsr TXCOUNT) v) 0) (Flushed Ok) FlushStatus k rs w
+          cond_both (eqb (read_field (Fsr TXCOUNT) v) 0) (Flushed (Ok tt)) FlushStatus (λ it. NowFlush it c c m τ k rs w)
           (λ h. (N.0, N.1, N.2, sym (shown_transmit y w g B) ∙ eqb-true (read_field (Fsr TXCOUNT) v) 0 h)) (λ h. N);
     }
     keep_flush y k q (Flushed x) rs w g B N = record { base = B; now = N }
@@ -516,9 +498,7 @@ module _ (n : ℕ) (accepts : Bool) (j : Job) (other : ℕ → ℕ) where
               (sym (quiet_first (recovery_access q) (flush_access f) (recovery_quiet q)))
               (base_quiet (j.words rs) (recovery_access q) w (recovery_quiet q) B);
           now =
-              now_cond (recovered (recovery_after q (answer_of a v))) (Ended (Err (Fifo d))) (Recovery d)
-              (cond (ended (recovery_access q)) (flushed f (answer_of a v)) f) k (received_after a v rs)
-              (wire_after j.exponent (j.words rs) a w) (λ h. N) (λ h. N);
+              cond_both (recovered (recovery_after q (answer_of a v))) (Ended (Err (Driver (Fifo d)))) (Recovery d) (λ it. At it (cond (ended (recovery_access q)) (flushed f (answer_of a v)) f) k (received_after a v rs) (wire_after j.exponent (j.words rs) a w)) (λ h. N) (λ h. N);
         }
 
     pub keep_step : (busy : Bool) (p : Stage) (k : Work) (q : Sequence) (f : Flush) (rs : List ℕ) (w : Wire) (g : List ℕ)
@@ -528,7 +508,7 @@ module _ (n : ℕ) (accepts : Bool) (j : Job) (other : ℕ → ℕ) where
     keep_step y (Space Status) k q f rs w g B N = record {
       base = B;
       now =
-          now_polled space_by (failed Tx (shows j.exponent y w g SR)) Failed (Next Sizes) f k rs w
+          cond_both (failed Tx (shows j.exponent y w g SR)) Failed (Next Sizes) (λ it. At (space_by it) f k rs w)
           (λ h. B.set_t (sym (shown_t y w g) ∙ h)) (λ h. N);
     }
     keep_step y (Space Sizes) k q f rs w g B N =
@@ -536,7 +516,7 @@ module _ (n : ℕ) (accepts : Bool) (j : Job) (other : ℕ → ℕ) where
     keep_step y (Space (Counts v)) k q f rs w g B N = record {
       base = B;
       now =
-          now_polled space_by (ready Tx v (shows j.exponent y w g FSR)) Ready Unready f k rs w
+          cond_both (ready Tx v (shows j.exponent y w g FSR)) Ready Unready (λ it. At (space_by it) f k rs w)
           (λ h. (N.0, N.1, N.3, N.4, N.5)) (λ h. (N.0, N.1, tt, N.3, N.4, N.5));
     }
     keep_step y Command k q f rs w g B N =
@@ -550,7 +530,7 @@ module _ (n : ℕ) (accepts : Bool) (j : Job) (other : ℕ → ℕ) where
     keep_step y (Sending Status) k q f rs w g B N = record {
       base = B;
       now =
-          now_polled (sending_by k) (failed Tx (shows j.exponent y w g SR)) Failed (Next Sizes) f k rs w
+          cond_both (failed Tx (shows j.exponent y w g SR)) Failed (Next Sizes) (λ it. At (sending_by k it) f k rs w)
           (λ h. B.set_t (sym (shown_t y w g) ∙ h)) (λ h. N);
     }
     keep_step y (Sending Sizes) k q f rs w g B N =
@@ -559,7 +539,7 @@ module _ (n : ℕ) (accepts : Bool) (j : Job) (other : ℕ → ℕ) where
       base = B;
       now =
           let counted = read_field (Fsr TXCOUNT) (shows j.exponent y w g FSR) in
-          now_polled (sending_by k) (ready Tx v (shows j.exponent y w g FSR)) Ready Unready f k rs w
+          cond_both (ready Tx v (shows j.exponent y w g FSR)) Ready Unready (λ it. At (sending_by k it) f k rs w)
           (λ h. (N.0, N.1, N.3, omega (arith, shown_transmit y w g B, ltb-true counted (depth_of Tx v) h, N.2), N.4))
           (λ h. now_receive_turn f k rs w B.small N.1 N.0 N.4);
     }
@@ -574,7 +554,7 @@ module _ (n : ℕ) (accepts : Bool) (j : Job) (other : ℕ → ℕ) where
     keep_step y (Receiving Status) k q f rs w g B N = record {
       base = B;
       now =
-          now_polled (receiving_by k) (failed Rx (shows j.exponent y w g SR)) Failed (Next Sizes) f k rs w
+          cond_both (failed Rx (shows j.exponent y w g SR)) Failed (Next Sizes) (λ it. At (receiving_by k it) f k rs w)
           (λ h. B.set_r (sym (shown_r y w g) ∙ h)) (λ h. N);
     }
     keep_step y (Receiving Sizes) k q f rs w g B N = rw (shown_fit y w g) (record { base = B; now = N })
@@ -582,7 +562,7 @@ module _ (n : ℕ) (accepts : Bool) (j : Job) (other : ℕ → ℕ) where
       base = B;
       now =
           let there = read_field (Fsr RXCOUNT) (shows j.exponent y w g FSR) in
-          now_polled (receiving_by k) (ready Rx v (shows j.exponent y w g FSR)) Ready Unready f k rs w
+          cond_both (ready Rx v (shows j.exponent y w g FSR)) Ready Unready (λ it. At (receiving_by k it) f k rs w)
           (λ h. (N.0, N.1, N.2, omega (arith, shown_receive y w g B, ltb-true 0 there h), N.3))
           (λ h. now_send_turn f k rs w B.small N.1 N.0 N.3);
     }
@@ -593,13 +573,13 @@ module _ (n : ℕ) (accepts : Bool) (j : Job) (other : ℕ → ℕ) where
           B.small N.1 (core_receive k rs w.receive w refl N.0 N.2 N.3) N.4;
     }
     keep_step y (Recovery d) k q f rs w g B N = keep_recovery y d k q f rs w g B N
-    keep_step y (Ended Ok) k q f rs w g B N = keep_flush y k q f rs w g B N
-    keep_step y (Ended (Err FrameSize)) k q f rs w g B N = keep_failed y (Err FrameSize) k q f rs w g B (λ f'. N)
-    keep_step y (Ended (Err (Fifo d))) k q f rs w g B N = keep_failed y (Err (Fifo d)) k q f rs w g B (λ f'. N)
-    keep_step y (Ended Stopped) k q f rs w g B N = absurd N
-    keep_step y (Ended Limits) k q f rs w g B N = absurd N
-    keep_step y (Ended ZeroClock) k q f rs w g B N = absurd N
-    keep_step y (Ended FifoExponent) k q f rs w g B N = absurd N
+    keep_step y (Ended (Ok u)) k q f rs w g B N = keep_flush y k q f rs w g B N
+    keep_step y (Ended (Err (Driver FrameSize))) k q f rs w g B N = keep_failed y (Err (Driver FrameSize)) k q f rs w g B (λ f'. N)
+    keep_step y (Ended (Err (Driver (Fifo d)))) k q f rs w g B N = keep_failed y (Err (Driver (Fifo d))) k q f rs w g B (λ f'. N)
+    keep_step y (Ended (Err Stopped)) k q f rs w g B N = absurd N
+    keep_step y (Ended (Err Limits)) k q f rs w g B N = absurd N
+    keep_step y (Ended (Err ZeroClock)) k q f rs w g B N = absurd N
+    keep_step y (Ended (Err FifoExponent)) k q f rs w g B N = absurd N
 
   -- NO STEP OVERRUNS the transmit queue
   flush_fits : (f : Flush) (w : Wire) → overrun j.exponent (flush_access f) w ≡ false
@@ -636,13 +616,13 @@ module _ (n : ℕ) (accepts : Bool) (j : Job) (other : ℕ → ℕ) where
   flush_stays FlushStatus g a b N = (g N.0, N.1, N.2)
   flush_stays FlushSizes g a b N = (g N.0, N.1, N.2)
   flush_stays FlushCounts g a b N = (g N.0, N.1, N.2)
-  flush_stays (Flushed Ok) g a b N = (g N.0, N.1, N.2, omega (arith, N.3))
-  flush_stays (Flushed (Err FrameSize)) g a b N = absurd N
-  flush_stays (Flushed (Err (Fifo d))) g a b N = (g N.0, N.1, N.2, omega (arith, N.3))
-  flush_stays (Flushed Stopped) g a b N = absurd N
-  flush_stays (Flushed Limits) g a b N = absurd N
-  flush_stays (Flushed ZeroClock) g a b N = absurd N
-  flush_stays (Flushed FifoExponent) g a b N = absurd N
+  flush_stays (Flushed (Ok u)) g a b N = (g N.0, N.1, N.2, omega (arith, N.3))
+  flush_stays (Flushed (Err (Driver FrameSize))) g a b N = absurd N
+  flush_stays (Flushed (Err (Driver (Fifo d)))) g a b N = (g N.0, N.1, N.2, omega (arith, N.3))
+  flush_stays (Flushed (Err Stopped)) g a b N = absurd N
+  flush_stays (Flushed (Err Limits)) g a b N = absurd N
+  flush_stays (Flushed (Err ZeroClock)) g a b N = absurd N
+  flush_stays (Flushed (Err FifoExponent)) g a b N = absurd N
 
   pub now_stays : (p : Stage) (f : Flush) {t c m t' c' m' : ℕ} {τ τ' : Tally} {k : Work} {rs : List ℕ} {w w' : Wire}
       → (Core t c m τ k rs w → Core t' c' m' τ' k rs w') → (Core t c m τ k rs w → Begun k w → Begun k w')
@@ -655,13 +635,13 @@ module _ (n : ℕ) (accepts : Bool) (j : Job) (other : ℕ → ℕ) where
   now_stays (Receiving q) f g e a b d N = (g N.0, N.1, N.2, e N.0 N.3)
   now_stays Receive f g e a b d N = (g N.0, N.1, N.2, omega (arith, N.3), e N.0 N.4)
   now_stays (Recovery x) f g e a b d N = omega (arith, N)
-  now_stays (Ended Ok) f g e a b d N = flush_stays f g a d N
-  now_stays (Ended (Err FrameSize)) f g e a b d N = N
-  now_stays (Ended (Err (Fifo x))) f g e a b d N = omega (arith, N)
-  now_stays (Ended Stopped) f g e a b d N = absurd N
-  now_stays (Ended Limits) f g e a b d N = absurd N
-  now_stays (Ended ZeroClock) f g e a b d N = absurd N
-  now_stays (Ended FifoExponent) f g e a b d N = absurd N
+  now_stays (Ended (Ok u)) f g e a b d N = flush_stays f g a d N
+  now_stays (Ended (Err (Driver FrameSize))) f g e a b d N = N
+  now_stays (Ended (Err (Driver (Fifo x)))) f g e a b d N = omega (arith, N)
+  now_stays (Ended (Err Stopped)) f g e a b d N = absurd N
+  now_stays (Ended (Err Limits)) f g e a b d N = absurd N
+  now_stays (Ended (Err ZeroClock)) f g e a b d N = absurd N
+  now_stays (Ended (Err FifoExponent)) f g e a b d N = absurd N
 
   -- A WORD IS RECEIVED only while some are to come, in a transfer that was accepted
   pub receives_below : (t c m : ℕ) (τ : Tally) (p : Stage) (k : Work) (q : Sequence) (f : Flush)
@@ -735,18 +715,18 @@ module _ (n : ℕ) (accepts : Bool) (j : Job) (other : ℕ → ℕ) where
   flush_sent t c m τ k FlushStatus rs w N = (N.1, N.0.shallow)
   flush_sent t c m τ k FlushSizes rs w N = (N.1, N.0.shallow)
   flush_sent t c m τ k FlushCounts rs w N = (N.1, N.0.shallow)
-  flush_sent t c m τ k (Flushed Ok) rs w N = (N.1, N.0.shallow)
-  flush_sent t c m τ k (Flushed (Err FrameSize)) rs w N = absurd N
-  flush_sent t c m τ k (Flushed (Err (Fifo d))) rs w N = (N.1, N.0.shallow)
-  flush_sent t c m τ k (Flushed Stopped) rs w N = absurd N
-  flush_sent t c m τ k (Flushed Limits) rs w N = absurd N
-  flush_sent t c m τ k (Flushed ZeroClock) rs w N = absurd N
-  flush_sent t c m τ k (Flushed FifoExponent) rs w N = absurd N
+  flush_sent t c m τ k (Flushed (Ok u)) rs w N = (N.1, N.0.shallow)
+  flush_sent t c m τ k (Flushed (Err (Driver FrameSize))) rs w N = absurd N
+  flush_sent t c m τ k (Flushed (Err (Driver (Fifo d)))) rs w N = (N.1, N.0.shallow)
+  flush_sent t c m τ k (Flushed (Err Stopped)) rs w N = absurd N
+  flush_sent t c m τ k (Flushed (Err Limits)) rs w N = absurd N
+  flush_sent t c m τ k (Flushed (Err ZeroClock)) rs w N = absurd N
+  flush_sent t c m τ k (Flushed (Err FifoExponent)) rs w N = absurd N
 
   pub shallow_empty : (t c m : ℕ) (τ : Tally) (p : Stage) (k : Work) (q : Sequence) (f : Flush) (rs : List ℕ) (w : Wire)
-      → Now p f t c m τ k rs w → due_access (at p k q) ≡ Done Ok → j.exponent ≡ 0 → n ≡ 0
+      → Now p f t c m τ k rs w → due_access (at p k q) ≡ Done (Ok tt) → j.exponent ≡ 0 → n ≡ 0
   shallow_empty t c m τ p k q f rs w N h l =
-      let r = flush_sent t c m τ k f rs w (subst (λ (x : Stage). Now x f t c m τ k rs w) (done_phase p k q Ok h) N) in
+      let r = flush_sent t c m τ k f rs w (subst (λ (x : Stage). Now x f t c m τ k rs w) (done_phase p k q (Ok tt) h) N) in
       sym r.0 ∙ r.1 l
 
   -- AT FRESH: empty, accepted or refused
@@ -777,27 +757,27 @@ module _ (n : ℕ) (accepts : Bool) (j : Job) (other : ℕ → ℕ) where
     made = omega arith;
     lost_le = omega arith;
     made_le = omega arith;
-    set_t = λ h. absurd (false_true h);
-    set_r = λ h. absurd (false_true h);
+    set_t = λ h. absurd (false≢true h);
+    set_r = λ h. absurd (false≢true h);
   }
 
   -- AN END THAT HAS HAD OK TWICE
   module _ (c m : ℕ) (τ : Tally) where
-    ok_now : (p : Stage) (k : Work) (q : Sequence) (f : Flush) (rs : List ℕ) (w : Wire) → due_access (at p k q) ≡ Done Ok
-        → flush_access f ≡ Done Ok → Now p f c c m τ k rs w
-        → NowFlush (Flushed Ok) c c m τ k rs w
+    ok_now : (p : Stage) (k : Work) (q : Sequence) (f : Flush) (rs : List ℕ) (w : Wire) → due_access (at p k q) ≡ Done (Ok tt)
+        → flush_access f ≡ Done (Ok tt) → Now p f c c m τ k rs w
+        → NowFlush (Flushed (Ok tt)) c c m τ k rs w
     ok_now p k q f rs w hp hf N =
         subst (λ (x : Flush). NowFlush x c c m τ k rs w) (flush_ended f hf)
-        (subst (λ (x : Stage). Now x f c c m τ k rs w) (done_phase p k q Ok hp) N)
+        (subst (λ (x : Stage). Now x f c c m τ k rs w) (done_phase p k q (Ok tt) hp) N)
       where
-        flush_ended : (f : Flush) → flush_access f ≡ Done Ok → f ≡ Flushed Ok
+        flush_ended : (f : Flush) → flush_access f ≡ Done (Ok tt) → f ≡ Flushed (Ok tt)
         flush_ended FlushStatus h = cc
         flush_ended FlushSizes h = cc
         flush_ended FlushCounts h = cc
         flush_ended (Flushed x) h = cc
 
     module _ (x : End) (G : Good c c m τ x) (ok : OkTwice (seen x)) where
-      pub ok_facts : NowFlush (Flushed Ok) c c m τ x.transfer.work x.received x.wire
+      pub ok_facts : NowFlush (Flushed (Ok tt)) c c m τ x.transfer.work x.received x.wire
       ok_facts =
           ok_now x.transfer.phase x.transfer.work x.transfer.reset x.flush x.received x.wire
           ok.0 ok.1 G.now
@@ -810,9 +790,9 @@ module _ (n : ℕ) (accepts : Bool) (j : Job) (other : ℕ → ℕ) where
 
       pub ok_empty : Emptied (seen x)
       ok_empty = let k = ok_facts in let B = G.base in record {
-        transmit = nil_of x.wire.transmit k.3;
+        transmit = nil_from_length x.wire.transmit k.3;
         receive =
-            nil_of x.wire.receive
+            nil_from_length x.wire.receive
             (omega (arith, k.0.in_eq, k.0.out_eq, k.1, k.2, k.3, B.small, words_most x.wire.transmit));
       }
 

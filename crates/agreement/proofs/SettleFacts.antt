@@ -14,7 +14,8 @@ use Rattle.words.specs.declared.transaction.Direction.TheVariants.{Tx}
 use Rattle.sequences.specs.Sequence.{too_deep, depth_of}
 use Rattle.words.specs.declared.transaction.LpspiError.TheVariants.{FrameSize, Fifo}
 use Rattle.sequences.specs.declared.access.Access.TheVariants.{Write}
-use Rattle.sequences.specs.declared.access.Ending.TheVariants.{Ok, Err, Stopped, Limits, ZeroClock, FifoExponent}
+use Rattle.std.specs.Prelude.{Ok, Err}
+use Rattle.sequences.specs.declared.access.RunError.TheVariants.{Driver, Stopped, Limits, ZeroClock, FifoExponent}
 use Rattle.machine.specs.declared.flush.Flush.{Flush}
 use Rattle.machine.specs.declared.flush.Flush.TheVariants.{Status as FlushStatus, Sizes as FlushSizes, Counts as FlushCounts}
 use Rattle.machine.specs.declared.flush.Flush.TheVariants.{Ended as Flushed}
@@ -56,7 +57,7 @@ calm_flag true flags f h = let z : 0 < flags = f refl in absurd (omega arith)
 calm_flag false flags f h = refl
 
 refused : {a : Bool} → a ≡ true → a ≡ false → ⊥
-refused h h' = let z : ◌≡◌ {A = ℕ} 0 1 = cc in omega arith
+refused h h' = grind arith
 
 -- a command that is queued waits for the first word: with all words sent and gone there is none
 no_command : (places words sent : ℕ) {n : ℕ} → (words < places → (sent ≡ words) × (0 < n)) → words ≡ 0 → n ≤ sent → places ≡ 0
@@ -91,7 +92,7 @@ module _ (n : ℕ) (accepts : Bool) (j : Job) (other : ℕ → ℕ) (small-e : j
 
     -- with its transfer answered Ok
     abbrev flushing : Flush → End
-    flushing f = end (at (Ended Ok) k q) f rs w g
+    flushing f = end (at (Ended (Ok tt)) k q) f rs w g
 
     t_off : w.t ≡ false
     t_off = calm_flag w.t τ.flags B.set_t calm
@@ -213,7 +214,7 @@ module _ (n : ℕ) (accepts : Bool) (j : Job) (other : ℕ → ℕ) (small-e : j
     unfolding stepped due_access resumed
     go_flush_sizes l = step_to (rw param_fit) l
 
-    go_flush_counts : length w.transmit ≡ 0 → L (flushing (Flushed Ok)) → L (flushing FlushCounts)
+    go_flush_counts : length w.transmit ≡ 0 → L (flushing (Flushed (Ok tt))) → L (flushing FlushCounts)
     unfolding stepped due_access resumed
     go_flush_counts h l =
         step_to (rw (shown_transmit n accepts j other small-e keeps c m τ false w g B, eq-eqb (length w.transmit) 0 h)) l
@@ -225,7 +226,7 @@ module _ (n : ℕ) (accepts : Bool) (j : Job) (other : ℕ → ℕ) (small-e : j
         go_flush_counts
         (no_command (length w.transmit) (length (words_in w.transmit)) k.sent x.unsent
         (omega (arith, x.in_eq, x.out_eq, B.small, B.made_le, calm)) (omega arith))
-        (here (flushing (Flushed Ok)) (over (refl, refl)))
+        (here (flushing (Flushed (Ok tt))) (over (refl, refl)))
 
     flush_status : Cr k rs w → k.sent ≡ n → length rs ≡ n → L (flushing FlushStatus)
     flush_status x hs hr = go_flush_status (go_flush_sizes (flush_counts x hs hr))
@@ -235,7 +236,7 @@ module _ (n : ℕ) (accepts : Bool) (j : Job) (other : ℕ → ℕ) (small-e : j
     turn_receive x go = by_tests (ltb k.received k.receive) (ltb k.sent k.send) refl refl
       where
         by_tests : (y z : Bool) → ltb k.received k.receive ≡ y → ltb k.sent k.send ≡ z
-            → L (on (cond y (Receiving Status) (cond z (Sending Status) (Ended Ok))))
+            → L (on (cond y (Receiving Status) (cond z (Sending Status) (Ended (Ok tt)))))
         by_tests true z h h' = go (omega (arith, ltb-true k.received k.receive h, x.taken, x.to_receive))
         by_tests false true h h' =
             absurd
@@ -260,7 +261,7 @@ module _ (n : ℕ) (accepts : Bool) (j : Job) (other : ℕ → ℕ) (small-e : j
     turn_send x go go' = by_tests (ltb k.sent k.send) (ltb k.received k.receive) refl refl
       where
         by_tests : (y z : Bool) → ltb k.sent k.send ≡ y → ltb k.received k.receive ≡ z
-            → L (on (cond y (Sending Status) (cond z (Receiving Status) (Ended Ok))))
+            → L (on (cond y (Sending Status) (cond z (Receiving Status) (Ended (Ok tt)))))
         by_tests true z h h' = go (omega (arith, ltb-true k.sent k.send h, x.to_send))
         by_tests false true h h' = go' (omega (arith, ltb-true k.received k.receive h', x.taken, x.to_receive))
         by_tests false false h h' =
@@ -407,18 +408,18 @@ module _ (n : ℕ) (accepts : Bool) (j : Job) (other : ℕ → ℕ) (small-e : j
         (λ l'. receiving_any k q rs w' g' B' x' l'))
 
     flush_leads : (f : Flush) (k : Work) (q : Sequence) (rs : List ℕ) (w : Wire) (g : List ℕ) → Bs w
-        → NowFlush n accepts j other f c c m τ k rs w → L (end (at (Ended Ok) k q) f rs w g)
+        → NowFlush n accepts j other f c c m τ k rs w → L (end (at (Ended (Ok tt)) k q) f rs w g)
     unfolding due_access
     flush_leads FlushStatus k q rs w g B N = flush_status k q rs w g B N.0 N.1 N.2
     flush_leads FlushSizes k q rs w g B N = go_flush_sizes k q rs w g B (flush_counts k q rs w g B N.0 N.1 N.2)
     flush_leads FlushCounts k q rs w g B N = flush_counts k q rs w g B N.0 N.1 N.2
-    flush_leads (Flushed Ok) k q rs w g B N = here (end (at (Ended Ok) k q) (Flushed Ok) rs w g) (over (refl, refl))
-    flush_leads (Flushed (Err FrameSize)) k q rs w g B N = absurd N
-    flush_leads (Flushed (Err (Fifo d))) k q rs w g B N = absurd (omega (arith, N.3))
-    flush_leads (Flushed Stopped) k q rs w g B N = absurd N
-    flush_leads (Flushed Limits) k q rs w g B N = absurd N
-    flush_leads (Flushed ZeroClock) k q rs w g B N = absurd N
-    flush_leads (Flushed FifoExponent) k q rs w g B N = absurd N
+    flush_leads (Flushed (Ok u)) k q rs w g B N = here (end (at (Ended (Ok tt)) k q) (Flushed (Ok tt)) rs w g) (over (refl, refl))
+    flush_leads (Flushed (Err (Driver FrameSize))) k q rs w g B N = absurd N
+    flush_leads (Flushed (Err (Driver (Fifo d)))) k q rs w g B N = absurd (omega (arith, N.3))
+    flush_leads (Flushed (Err Stopped)) k q rs w g B N = absurd N
+    flush_leads (Flushed (Err Limits)) k q rs w g B N = absurd N
+    flush_leads (Flushed (Err ZeroClock)) k q rs w g B N = absurd N
+    flush_leads (Flushed (Err FifoExponent)) k q rs w g B N = absurd N
 
     -- EVERY PHASE SETTLES. Before its flush has begun
     phase_leads : accepts ≡ true → (p : Stage) (k : Work) (q : Sequence) (rs : List ℕ) (w : Wire) (g : List ℕ) → Bs w
@@ -448,17 +449,17 @@ module _ (n : ℕ) (accepts : Bool) (j : Job) (other : ℕ → ℕ) (small-e : j
         receiving_counts k q rs w g B v pos N.0 N.2 (λ h. received k q rs w g B N.0 N.2 h)
     phase_leads a Receive k q rs w g B N = received k q rs w g B N.0 N.2 N.3
     phase_leads a (Recovery d) k q rs w g B N = absurd (omega (arith, N))
-    phase_leads a (Ended Ok) k q rs w g B N = flush_leads FlushStatus k q rs w g B N
-    phase_leads a (Ended (Err FrameSize)) k q rs w g B N = absurd (refused a N)
-    phase_leads a (Ended (Err (Fifo d))) k q rs w g B N = absurd (omega (arith, N))
-    phase_leads a (Ended Stopped) k q rs w g B N = absurd N
-    phase_leads a (Ended Limits) k q rs w g B N = absurd N
-    phase_leads a (Ended ZeroClock) k q rs w g B N = absurd N
-    phase_leads a (Ended FifoExponent) k q rs w g B N = absurd N
+    phase_leads a (Ended (Ok u)) k q rs w g B N = flush_leads FlushStatus k q rs w g B N
+    phase_leads a (Ended (Err (Driver FrameSize))) k q rs w g B N = absurd (refused a N)
+    phase_leads a (Ended (Err (Driver (Fifo d)))) k q rs w g B N = absurd (omega (arith, N))
+    phase_leads a (Ended (Err Stopped)) k q rs w g B N = absurd N
+    phase_leads a (Ended (Err Limits)) k q rs w g B N = absurd N
+    phase_leads a (Ended (Err ZeroClock)) k q rs w g B N = absurd N
+    phase_leads a (Ended (Err FifoExponent)) k q rs w g B N = absurd N
 
     -- at any stage of it
     begun_flush : (p : Stage) (f : Flush) (k : Work) (rs : List ℕ) (w : Wire) → Now n accepts j other p f c c m τ k rs w
-        → (p ≡ Ended Ok) ⊎ (f ≡ FlushStatus) ⊎ (0 < τ.flags) ⊎ (accepts ≡ false)
+        → (p ≡ Ended (Ok tt)) ⊎ (f ≡ FlushStatus) ⊎ (0 < τ.flags) ⊎ (accepts ≡ false)
     begun_flush (Space v) f k rs w N = inr (inl N.1)
     begun_flush Command f k rs w N = inr (inl N.1)
     begun_flush (Sending v) f k rs w N = inr (inl N.1)
@@ -466,20 +467,20 @@ module _ (n : ℕ) (accepts : Bool) (j : Job) (other : ℕ → ℕ) (small-e : j
     begun_flush (Receiving v) f k rs w N = inr (inl N.1)
     begun_flush Receive f k rs w N = inr (inl N.1)
     begun_flush (Recovery d) f k rs w N = inr (inr (inl N))
-    begun_flush (Ended Ok) f k rs w N = inl refl
-    begun_flush (Ended (Err FrameSize)) f k rs w N = inr (inr (inr N))
-    begun_flush (Ended (Err (Fifo d))) f k rs w N = inr (inr (inl N))
-    begun_flush (Ended Stopped) f k rs w N = absurd N
-    begun_flush (Ended Limits) f k rs w N = absurd N
-    begun_flush (Ended ZeroClock) f k rs w N = absurd N
-    begun_flush (Ended FifoExponent) f k rs w N = absurd N
+    begun_flush (Ended (Ok u)) f k rs w N = inl refl
+    begun_flush (Ended (Err (Driver FrameSize))) f k rs w N = inr (inr (inr N))
+    begun_flush (Ended (Err (Driver (Fifo d)))) f k rs w N = inr (inr (inl N))
+    begun_flush (Ended (Err Stopped)) f k rs w N = absurd N
+    begun_flush (Ended (Err Limits)) f k rs w N = absurd N
+    begun_flush (Ended (Err ZeroClock)) f k rs w N = absurd N
+    begun_flush (Ended (Err FifoExponent)) f k rs w N = absurd N
 
     pub leads : accepts ≡ true → (p : Stage) (f : Flush) (k : Work) (q : Sequence) (rs : List ℕ) (w : Wire) (g : List ℕ) → Bs w
         → Now n accepts j other p f c c m τ k rs w
         → L (end (at p k q) f rs w g)
     leads a p f k q rs w g B N =
         ⊎_elim
-        (λ (e : p ≡ Ended Ok). subst (λ (z : Stage). L (end (at z k q) f rs w g)) (sym e)
+        (λ (e : p ≡ Ended (Ok tt)). subst (λ (z : Stage). L (end (at z k q) f rs w g)) (sym e)
         (flush_leads f k q rs w g B (subst (λ (z : Stage). Now n accepts j other z f c c m τ k rs w) e N)))
         (⊎_elim
         (λ (e : f ≡ FlushStatus). subst (λ (z : Flush). L (end (at p k q) z rs w g)) (sym e)

@@ -1,11 +1,12 @@
 -- What polls and flush make of the registers of an end: SR's flags, PARAM's depth, FSR's counts.
 -- Assumes nothing.
-use Prim.Native.Nat.{ℕ, zero, suc, ◌^◌, ◌<◌, ◌≤◌}
+use Prim.Native.Nat.{ℕ, zero, suc, ◌^◌, ◌%◌, ◌<◌, ◌≤◌}
 use mathlib.Core.Bool.{Bool, true, false}
-use mathlib.Core.List.{[], ◌∷◌}
+use mathlib.Core.List.{List, [], ◌∷◌}
 use mathlib.Core.Path.{◌≡◌, refl, ap, ◌∙◌}
 use native.Mathlib.Nat.{mod-eq_of_lt}
 use native.Mathlib.Omega.{arith}
+use Rattle.std.proofs.Math.Pow.{pow_mono}
 use lib.Dec.{eqb}
 use lib.ListN.{length}
 use borrow.Author.Tests.{le-ltb}
@@ -13,8 +14,9 @@ use Rattle.manual.specs.declared.Field.TheVariants.{Sr, Fsr, Param}
 use Rattle.manual.specs.declared.Fsr.TheVariants.{TXCOUNT, RXCOUNT}
 use Rattle.manual.specs.declared.Param.TheVariants.{TXFIFO, RXFIFO}
 use Rattle.manual.specs.declared.Sr.TheVariants.{TEF, REF, MBF}
-use Rattle.manual.specs.Manual.{read_field}
+use Rattle.manual.specs.Manual.{read_field, Setting}
 use Rattle.manual.proofs.ManualLaws.{read_all}
+use Rattle.words.specs.Command.{flag_of}
 use Rattle.words.specs.declared.transaction.Direction.{Direction}
 use Rattle.words.specs.declared.transaction.Direction.TheVariants.{Tx, Rx}
 use Rattle.sequences.specs.Sequence.{exponent_of, too_deep, depth_of}
@@ -22,55 +24,24 @@ use Rattle.sequences.proofs.DepthLaws.{true_depth}
 use Rattle.agreement.specs.declared.register.Role.TheVariants.{Sizes as sizes, Status as status, Counts as counts}
 use Rattle.agreement.specs.End.{Wire, shows_by}
 
+-- a flag is read back from its bit
+flag_back : (b : Bool) → eqb (flag_of b % 2 ^ 1) 1 ≡ b
+flag_back true = refl
+flag_back false = refl
+
 module _ (e : ℕ) (busy : Bool) (w : Wire) where
   -- the transmit error flag is T, the receive error flag R, the busy flag what the step has
+  abbrev flags : List Setting
+  flags = (Sr TEF, flag_of w.t) ∷ (Sr REF, flag_of w.r) ∷ (Sr MBF, flag_of busy) ∷ []
+
   pub shows_t : (held : ℕ) → eqb (read_field (Sr TEF) (shows_by e busy w status held)) 1 ≡ w.t
-  shows_t held = by_flags w.t w.r busy
-    where
-      by_flags : (t r b : Bool)
-          → eqb
-          (read_field (Sr TEF) (shows_by e b (record { transmit = w.transmit; receive = w.receive; t = t; r = r }) status held)) 1
-          ≡ t
-      by_flags true true true = refl
-      by_flags true true false = refl
-      by_flags true false true = refl
-      by_flags true false false = refl
-      by_flags false true true = refl
-      by_flags false true false = refl
-      by_flags false false true = refl
-      by_flags false false false = refl
+  shows_t held = ap (λ (n : ℕ). eqb n 1) (read_all (Sr TEF) flags 0 tt) ∙ flag_back w.t
 
   pub shows_r : (held : ℕ) → eqb (read_field (Sr REF) (shows_by e busy w status held)) 1 ≡ w.r
-  shows_r held = by_flags w.t w.r busy
-    where
-      by_flags : (t r b : Bool)
-          → eqb
-          (read_field (Sr REF) (shows_by e b (record { transmit = w.transmit; receive = w.receive; t = t; r = r }) status held)) 1
-          ≡ r
-      by_flags true true true = refl
-      by_flags true true false = refl
-      by_flags true false true = refl
-      by_flags true false false = refl
-      by_flags false true true = refl
-      by_flags false true false = refl
-      by_flags false false true = refl
-      by_flags false false false = refl
+  shows_r held = ap (λ (n : ℕ). eqb n 1) (read_all (Sr REF) flags 0 tt) ∙ flag_back w.r
 
   pub shows_busy : (held : ℕ) → eqb (read_field (Sr MBF) (shows_by e busy w status held)) 1 ≡ busy
-  shows_busy held = by_flags w.t w.r busy
-    where
-      by_flags : (t r b : Bool)
-          → eqb
-          (read_field (Sr MBF) (shows_by e b (record { transmit = w.transmit; receive = w.receive; t = t; r = r }) status held)) 1
-          ≡ b
-      by_flags true true true = refl
-      by_flags true true false = refl
-      by_flags true false true = refl
-      by_flags true false false = refl
-      by_flags false true true = refl
-      by_flags false true false = refl
-      by_flags false false true = refl
-      by_flags false false false = refl
+  shows_busy held = ap (λ (n : ℕ). eqb n 1) (read_all (Sr MBF) flags 0 tt) ∙ flag_back busy
 
   -- both of PARAM's fields are the exponent
   shows_exponent : (d : Direction) (held : ℕ) → e ≤ 4 → exponent_of d (shows_by e busy w sizes held) ≡ e
@@ -106,9 +77,4 @@ below_capacity zero = omega arith
 below_capacity (suc e) = omega (arith, below_capacity e)
 
 pub capacity_small : (e : ℕ) → e ≤ 4 → 2 ^ e ≤ 16
-capacity_small zero h = omega arith
-capacity_small (suc zero) h = omega arith
-capacity_small (suc (suc zero)) h = omega arith
-capacity_small (suc (suc (suc zero))) h = omega arith
-capacity_small (suc (suc (suc (suc zero)))) h = omega arith
-capacity_small (suc (suc (suc (suc (suc e))))) h = omega arith
+capacity_small e h = pow_mono h

@@ -8,6 +8,7 @@ use native.Mathlib.Omega.{arith}
 use lib.Dec.{eqb, ltb}
 use lib.ListN.{length, get_or}
 use borrow.Author.Tests.{eqb-true, eqb-false, ltb-false, le-ltb}
+use Rattle.std.proofs.lemmas.Bool.{cond_both, or_parts}
 use Rattle.words.specs.declared.order.BitOrder.{BitOrder}
 use Rattle.words.specs.declared.order.BitOrder.TheVariants.{Msb, Lsb}
 use Rattle.words.specs.declared.transaction.LpspiError.TheVariants.{FrameSize}
@@ -20,7 +21,8 @@ use Rattle.words.specs.Word.{laid}
 use Rattle.words.proofs.WordLaws.{Elements}
 use Rattle.words.proofs.BufferLaws.{length_filled, holds_one, unpack_pack_words}
 use Rattle.words.proofs.LaidLaws.{laid_at, in_place_word}
-use Rattle.sequences.specs.declared.access.Ending.TheVariants.{Ok, Err}
+use Rattle.std.specs.Prelude.{Ok, Err}
+use Rattle.sequences.specs.declared.access.RunError.TheVariants.{Driver}
 use Rattle.machine.specs.declared.flush.Flush.TheVariants.{Status}
 use Rattle.sequences.specs.Driver.{driver_command}
 use Rattle.machine.specs.Transfer.{start_transfer, ended_transfer}
@@ -30,29 +32,21 @@ use Rattle.agreement.specs.End.{fresh_wire, fresh_registers, end, fresh_end}
 use Rattle.agreement.specs.Tally.{nothing}
 use Rattle.agreement.proofs.EndFacts.{Keeps, own, Good, fresh_core, fresh_base}
 
--- SEPARATE AND IN PLACE: a fact of a plan, by the kind of transfer
-by_kind : {A : Type 0} (P : A → Type 0) (b : Bool) (x y : A) → P x → P y → P (cond b x y)
-by_kind P true x y px py = px
-by_kind P false x y px py = py
-
+-- SEPARATE AND IN PLACE
 sends_all : (s : Start) → (plan s).send ≡ frame_words s
 sends_all s =
-    by_kind (λ (p : Plan). p.send ≡ word_count (element_bits s) p.total) s.board.inplace
-    (in_place_plan (element_bits s) s.board.driver s.read)
-    (separate_plan (element_bits s) s.board.driver s.read s.write) refl refl
+    cond_both s.board.inplace (in_place_plan (element_bits s) s.board.driver s.read)
+    (separate_plan (element_bits s) s.board.driver s.read s.write) (λ (p : Plan). p.send ≡ word_count (element_bits s) p.total) (λ _. refl) (λ _. refl)
 
 receives_all : (s : Start) → (plan s).receive ≡ frame_words s
 receives_all s =
-    by_kind (λ (p : Plan). p.receive ≡ word_count (element_bits s) p.total) s.board.inplace
-    (in_place_plan (element_bits s) s.board.driver s.read)
-    (separate_plan (element_bits s) s.board.driver s.read s.write) refl refl
+    cond_both s.board.inplace (in_place_plan (element_bits s) s.board.driver s.read)
+    (separate_plan (element_bits s) s.board.driver s.read s.write) (λ (p : Plan). p.receive ≡ word_count (element_bits s) p.total) (λ _. refl) (λ _. refl)
 
 pub read_within : (s : Start) → length s.read ≤ total s
 read_within s =
-    by_kind (λ (p : Plan). length s.read ≤ p.total) s.board.inplace
-    (in_place_plan (element_bits s) s.board.driver s.read)
-    (separate_plan (element_bits s) s.board.driver s.read s.write)
-    (omega arith) (omega arith)
+    cond_both s.board.inplace (in_place_plan (element_bits s) s.board.driver s.read)
+    (separate_plan (element_bits s) s.board.driver s.read s.write) (λ (p : Plan). length s.read ≤ p.total) (λ _. omega arith) (λ _. omega arith)
 
 -- the words that an end started with are those of its elements
 pub own_words : (s : Start) (i : ℕ) → own (job s) i ≡ word_at s.board.driver.order (element_bits s) (total s) (started s) i
@@ -71,10 +65,8 @@ own_words s i = by_place s.board.inplace
 -- an element already received over is sent as received; a word behind those received is as it was
 pub keeps : (s : Start) → Keeps (job s)
 keeps s rs i h =
-    by_kind (λ (p : Plan). p.words rs i ≡ p.words [] i) s.board.inplace
-    (in_place_plan (element_bits s) s.board.driver s.read)
-    (separate_plan (element_bits s) s.board.driver s.read s.write)
-    (in_place_word s.board.driver.order (element_bits s) (length s.read) i rs s.read refl ∙ rw (le-ltb i (length rs) h)) refl
+    cond_both s.board.inplace (in_place_plan (element_bits s) s.board.driver s.read)
+    (separate_plan (element_bits s) s.board.driver s.read s.write) (λ (p : Plan). p.words rs i ≡ p.words [] i) (λ _. (in_place_word s.board.driver.order (element_bits s) (length s.read) i rs s.read refl ∙ rw (le-ltb i (length rs) h))) (λ _. refl)
 
 -- FRESH
 no_words_lem : (w : Width) (n : ℕ) → n ≡ 0 → word_count (width_bits w) n ≡ 0
@@ -101,15 +93,15 @@ good_fresh s n accepts other m en ea = by_tests (eqb (total s) 0) (frame_accepte
     by_tests : (x y : Bool) → eqb (total s) 0 ≡ x → (x || y) ≡ accepts
         → Good n accepts (job s) other 0 0 m nothing
         (end
-        (cond x (ended_transfer s.board.driver Ok)
+        (cond x (ended_transfer s.board.driver (Ok tt))
         (cond y (start_transfer s.board.driver command (plan s).send (plan s).receive)
-        (ended_transfer s.board.driver (Err FrameSize))))
+        (ended_transfer s.board.driver (Err (Driver FrameSize)))))
         Status [] fresh_wire fresh_registers)
     by_tests true y e h =
         let z : 0 ≡ n = sym (no_words_lem s.board.width (total s) (eqb-true (total s) 0 e)) ∙ en in
         record {
           base = fresh_base n accepts (job s) other;
-          now = (fresh_core n accepts (job s) other m (ended_transfer s.board.driver Ok).work (sym h) z z refl refl, z, z);
+          now = (fresh_core n accepts (job s) other m (ended_transfer s.board.driver (Ok tt)).work (sym h) z z refl refl, z, z);
         }
     by_tests false true e h =
         let l : 0 < n = subst (λ (k : ℕ). 0 < k) en (some_words s.board.width (total s) (eqb-false (total s) 0 e)) in
@@ -154,10 +146,6 @@ pub record Fit (g a : Start) : Type 0 where
   pub order : g.board.driver.order ≡ a.board.driver.order
   pub length : total g ≡ total a
 
-pub either : (x y : Bool) → (x || y) ≡ false → (x ≡ false) × (y ≡ false)
-either true y h = (h, let z : ◌≡◌ {A = ℕ} 0 1 = cc in absurd (omega arith))
-either false y h = (refl, h)
-
 pub equal : (m n : ℕ) → unequal m n ≡ false → m ≡ n
 equal m n h = by_test (eqb m n) refl h
   where
@@ -176,11 +164,11 @@ fit g a h =
     let order = unequal (lsbf_of g.board.driver.order) (lsbf_of a.board.driver.order) in
     let length = unequal (total g) (total a) in
     let e₁ =
-    either (ltb 4 g.board.exponent)
+    or_parts (ltb 4 g.board.exponent)
     (ltb 4 a.board.exponent || (unequal (element_bits g) (element_bits a) || (order || length))) h in
-    let e₂ = either (ltb 4 a.board.exponent) (unequal (element_bits g) (element_bits a) || (order || length)) e₁.1 in
-    let e₃ = either (unequal (element_bits g) (element_bits a)) (order || length) e₂.1 in
-    let e₄ = either order length e₃.1 in
+    let e₂ = or_parts (ltb 4 a.board.exponent) (unequal (element_bits g) (element_bits a) || (order || length)) e₁.1 in
+    let e₃ = or_parts (unequal (element_bits g) (element_bits a)) (order || length) e₂.1 in
+    let e₄ = or_parts order length e₃.1 in
     record {
       gate_small = ltb-false 4 g.board.exponent e₁.0;
       antenna_small = ltb-false 4 a.board.exponent e₂.0;

@@ -54,14 +54,7 @@ pub emptied_is : (b : Bool) (q : List ℕ) (f : ℕ → ℕ) (a : ℕ) → q ≡
 emptied_is true q f a h = refl
 emptied_is false q f a h = h
 
-pub nil_of : {A : Type 0} (q : List A) → length q ≡ 0 → q ≡ []
-nil_of [] h = refl
-nil_of (v ∷ q) h = absurd (omega arith)
-
 -- FLAGS
 pub lowered_set : (b t : Bool) → cond b false t ≡ true → t ≡ true
 lowered_set true t h = cc
 lowered_set false t h = h
-
-pub false_true : false ≡ true → ⊥
-false_true h = let z : ◌≡◌ {A = ℕ} 0 1 = cc in omega arith

@@ -1,10 +1,9 @@
 -- DEMAND 3 (document 01, The bus): one statement about a whole list of events from fresh, of any length.
 -- Assumes nothing.
-use Rattle.std.specs.Prelude.{ℕ, ◌+◌, ◌^◌, ◌<◌, true, List, [], ◌∷◌, ◌++◌, ◌≡◌, length, get_or}
+use Rattle.std.specs.Prelude.{ℕ, ◌+◌, ◌^◌, ◌<◌, true, List, [], ◌∷◌, ◌++◌, ◌≡◌, length, get_or, Ok}
 use Rattle.words.specs.Buffer.{dummy, unpack_words}
 use Rattle.words.specs.Word.{laid}
 use Rattle.sequences.specs.declared.access.Access.TheVariants.{Done}
-use Rattle.sequences.specs.declared.access.Ending.TheVariants.{Ok}
 use Rattle.machine.specs.declared.flush.Flush.{Flush}
 use Rattle.machine.specs.declared.transfer.Transfer.{Transfer}
 use Rattle.machine.specs.Flush.{flush_access}
@@ -30,7 +29,7 @@ seen x = record { transfer = x.transfer; flush = x.flush; wire = x.wire; registe
 
 -- Ok twice: the end's transfer and then its flush have answered 0
 abbrev pub OkTwice : Seen → Type 0
-OkTwice x = (due_access x.transfer ≡ Done Ok) × (flush_access x.flush ≡ Done Ok)
+OkTwice x = (due_access x.transfer ≡ Done (Ok tt)) × (flush_access x.flush ≡ Done (Ok tt))
 
 -- an end's read buffer: the elements of the words received so far over what it held at fresh
 abbrev pub buffer_of : Start → End → List ℕ

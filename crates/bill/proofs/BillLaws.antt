@@ -16,8 +16,9 @@ use Rattle.words.specs.Word.{per_word}
 use Rattle.words.specs.Buffer.{word_count}
 use Rattle.words.specs.Command.{frame_accepted, commanded}
 use Rattle.words.proofs.BufferLaws.{holds_one, enough_words}
-use Rattle.sequences.specs.declared.access.Ending.{Ending}
-use Rattle.sequences.specs.declared.access.Ending.TheVariants.{Ok, Err}
+use Rattle.sequences.specs.Access.{Ending}
+use Rattle.std.specs.Prelude.{Ok, Err}
+use Rattle.sequences.specs.declared.access.RunError.TheVariants.{Driver}
 use Rattle.sequences.specs.declared.driver.Lpspi.{Lpspi}
 use Rattle.sequences.specs.Access.{number_of}
 use Rattle.sequences.specs.Driver.{driver_command}
@@ -43,22 +44,22 @@ module _ (k : ℕ) (d : Lpspi) (p : Plan) (budget : ℕ) (script : List ℕ) whe
   from t = run due_access resumed p.words script budget (start t)
 
   abbrev EndsOk : Transfer → Type 0
-  EndsOk t = ending_of (due_access (from t).machine) ≡ Ok
+  EndsOk t = ending_of (due_access (from t).machine) ≡ Ok tt
 
   -- a transfer that makes no access
   unmoved : (e : Ending) → from (ended_transfer d e) ≡ start (ended_transfer d e)
   unfolding due_access
   unmoved e = run_halted due_access resumed p.words script budget (start (ended_transfer d e)) refl
 
-  refused_not_ok : EndsOk (ended_transfer d (Err FrameSize)) → ⊥
+  refused_not_ok : EndsOk (ended_transfer d (Err (Driver FrameSize))) → ⊥
   unfolding due_access
   refused_not_ok e =
-      let q : Err FrameSize ≡ Ok = ap (λ (s : State Transfer). ending_of (due_access s.machine)) (sym (unmoved (Err FrameSize))) ∙ e in
+      let q : Err (Driver FrameSize) ≡ (Ok tt) = ap (λ (s : State Transfer). ending_of (due_access s.machine)) (sym (unmoved (Err (Driver FrameSize)))) ∙ e in
       let z : ◌≡◌ {A = ℕ} 0 1 = cc in
       omega arith
 
   -- a run that ends Ok is of an empty transfer, or of one that was started
-  ok_began : (Holds : Transfer → Type 0) → (p.total ≡ 0 → Holds (ended_transfer d Ok))
+  ok_began : (Holds : Transfer → Type 0) → (p.total ≡ 0 → Holds (ended_transfer d (Ok tt)))
       → ((command : ℕ) → EndsOk (start_transfer d command p.send p.receive) → Holds (start_transfer d command p.send p.receive))
       → EndsOk (begun k d p) → Holds (begun k d p)
   ok_began Holds empty started =
@@ -66,22 +67,22 @@ module _ (k : ℕ) (d : Lpspi) (p : Plan) (budget : ℕ) (script : List ℕ) whe
       (frame_accepted (k * p.total))
     where
       by_tests : (command : ℕ) (b : Bool) → eqb p.total 0 ≡ b → (c : Bool)
-          → EndsOk (cond b (ended_transfer d Ok) (cond c (start_transfer d command p.send p.receive) (ended_transfer d (Err FrameSize))))
-          → Holds (cond b (ended_transfer d Ok) (cond c (start_transfer d command p.send p.receive) (ended_transfer d (Err FrameSize))))
+          → EndsOk (cond b (ended_transfer d (Ok tt)) (cond c (start_transfer d command p.send p.receive) (ended_transfer d (Err (Driver FrameSize)))))
+          → Holds (cond b (ended_transfer d (Ok tt)) (cond c (start_transfer d command p.send p.receive) (ended_transfer d (Err (Driver FrameSize)))))
       by_tests command true t c e = empty (eqb-true p.total 0 t)
       by_tests command false t true e = started command e
       by_tests command false t false e = absurd (refused_not_ok e)
 
-  empty_made : (b : Bool) (t : Transfer) → b ≡ true → length (from (cond b (ended_transfer d Ok) t)).log ≡ 0
-  empty_made true t h = ap (λ (s : State Transfer). length s.log) (unmoved Ok)
-  empty_made false t h = absurd (let z : ◌≡◌ {A = ℕ} 0 1 = cc in omega arith)
+  empty_made : (b : Bool) (t : Transfer) → b ≡ true → length (from (cond b (ended_transfer d (Ok tt)) t)).log ≡ 0
+  empty_made true t h = ap (λ (s : State Transfer). length s.log) (unmoved (Ok tt))
+  empty_made false t h = cc
 
-  empty_listed : (old : List ℕ) → unready_polls script p.words budget (start (ended_transfer d Ok))
-      ≡ polls_again (length (from (ended_transfer d Ok)).log) (log_over old (from (ended_transfer d Ok)).log)
+  empty_listed : (old : List ℕ) → unready_polls script p.words budget (start (ended_transfer d (Ok tt)))
+      ≡ polls_again (length (from (ended_transfer d (Ok tt))).log) (log_over old (from (ended_transfer d (Ok tt))).log)
   unfolding due_access
   empty_listed old =
-      no_polls script p.words budget (start (ended_transfer d Ok)) refl
-      ∙ ap (λ (s : State Transfer). polls_again (length s.log) (log_over old s.log)) (sym (unmoved Ok))
+      no_polls script p.words budget (start (ended_transfer d (Ok tt))) refl
+      ∙ ap (λ (s : State Transfer). polls_again (length s.log) (log_over old s.log)) (sym (unmoved (Ok tt)))
 
 -- n is 0 for the empty transfer and, at the three widths, at least 1 for every other
 no_words_lem : (k : ℕ) → word_count k 0 ≡ 0
@@ -111,11 +112,11 @@ module _ (k : ℕ) (d : Lpspi) (budget : ℕ) (script log : List ℕ) (p : Plan)
   end = transfer_states k d p script budget
 
   -- the number 0 comes past the test for 5, of a run that ended Ok
-  passed : call.number ≡ 0 → (call ≡ ran due_access d log end) × (ending_of (due_access end.machine) ≡ Ok)
+  passed : call.number ≡ 0 → (call ≡ ran due_access d log end) × (ending_of (due_access end.machine) ≡ Ok tt)
   passed = by_limits (limits budget log)
     where
       by_limits : (b : Bool) → (leaves k d p budget script b buffer log).call.number ≡ 0
-          → ((leaves k d p budget script b buffer log).call ≡ ran due_access d log end) × (ending_of (due_access end.machine) ≡ Ok)
+          → ((leaves k d p budget script b buffer log).call ≡ ran due_access d log end) × (ending_of (due_access end.machine) ≡ Ok tt)
       by_limits true h = absurd (omega arith)
       by_limits false h = (refl, zero_is_ok _ h)
 

@@ -1,5 +1,6 @@
 -- What a transfer costs: a run that ended Ok has made 4 accesses, 4 for each word either way, and 3 for each poll that was not ready.
 -- Assumes nothing.
+use Rattle.std.proofs.lemmas.Bool.{cond_both}
 use Prim.Native.Nat.{ℕ, ◌+◌, ◌*◌}
 use mathlib.Core.Bool.{Bool, true, false, cond}
 use mathlib.Core.List.{List, [], ◌∷◌}
@@ -7,18 +8,17 @@ use mathlib.Core.Path.{◌≡◌, refl}
 use native.Mathlib.Omega.{arith}
 use lib.Dec.{ltb}
 use lib.ListN.{length, length-append}
-use Rattle.words.specs.declared.transaction.Direction.{Direction}
 use Rattle.words.specs.declared.transaction.Direction.TheVariants.{Tx, Rx}
-use Rattle.words.specs.declared.transaction.LpspiError.TheVariants.{Fifo}
-use Rattle.sequences.specs.declared.access.Ending.{Ending}
-use Rattle.sequences.specs.declared.access.Ending.TheVariants.{Ok, Err, Stopped, Limits, ZeroClock, FifoExponent}
+use Rattle.sequences.specs.Access.{Ending}
+use Rattle.std.specs.Prelude.{Ok, Err}
 use Rattle.sequences.specs.declared.driver.Lpspi.{Lpspi}
 use Rattle.sequences.specs.declared.sequence.Sequence.{Sequence}
 use Rattle.sequences.specs.Sequence.{too_deep}
 use Rattle.sequences.specs.Recovery.{recovery_after, recovered}
+use Rattle.machine.specs.declared.poll.Polled.{Polled}
 use Rattle.machine.specs.declared.poll.Poll.{Poll}
 use Rattle.machine.specs.declared.poll.Poll.TheVariants.{Status, Sizes, Counts}
-use Rattle.machine.specs.declared.poll.Polled.TheVariants.{Failed, TooDeep, Next, Ready, Unready}
+use Rattle.machine.specs.declared.poll.Polled.TheVariants.{Ready, Unready}
 use Rattle.machine.specs.declared.transfer.Stage.{Stage}
 use Rattle.machine.specs.declared.transfer.Stage.TheVariants.{Space, Command, Sending, Send, Receiving, Receive, Recovery, Ended}
 use Rattle.machine.specs.declared.transfer.Transfer.{Transfer}
@@ -42,12 +42,8 @@ abbrev cost : Work → ℕ
 cost w = 4 + 4 * (w.sent + w.received)
 
 abbrev Final : Ending → Work → ℕ → ℕ → Type 0
-Final Ok w made n = made ≡ cost w + 3 * n
+Final (Ok u) w made n = made ≡ cost w + 3 * n
 Final (Err e) w made n = Unit {0}
-Final Stopped w made n = Unit {0}
-Final Limits w made n = Unit {0}
-Final ZeroClock w made n = Unit {0}
-Final FifoExponent w made n = Unit {0}
 
 -- `made` accesses and n unready polls brought the transfer where it stands; nothing is said once an error was met
 abbrev Bill : Stage → Work → ℕ → ℕ → Type 0
@@ -64,20 +60,14 @@ abbrev Billed : Holding
 Billed p w l n = Bill p w (length l) n
 
 send_bill : (w : Work) (made n : ℕ) → made ≡ cost w + 3 * n → Bill (send_turn w) w made n
-send_bill w made n h = by_test (ltb w.sent w.send) (ltb w.received w.receive)
-  where
-    by_test : (t u : Bool) → Bill (cond t (Sending Status) (cond u (Receiving Status) (Ended Ok))) w made n
-    by_test true u = omega arith
-    by_test false true = omega arith
-    by_test false false = h
+send_bill w made n h =
+    cond_both (ltb w.sent w.send) (Sending Status) _ (λ q. Bill q w made n) (λ _. omega arith)
+    (λ _. cond_both (ltb w.received w.receive) (Receiving Status) _ (λ q. Bill q w made n) (λ _. omega arith) (λ _. h))
 
 receive_bill : (w : Work) (made n : ℕ) → made ≡ cost w + 3 * n → Bill (receive_turn w) w made n
-receive_bill w made n h = by_test (ltb w.received w.receive) (ltb w.sent w.send)
-  where
-    by_test : (t u : Bool) → Bill (cond t (Receiving Status) (cond u (Sending Status) (Ended Ok))) w made n
-    by_test true u = omega arith
-    by_test false true = omega arith
-    by_test false false = h
+receive_bill w made n h =
+    cond_both (ltb w.received w.receive) (Receiving Status) _ (λ q. Bill q w made n) (λ _. omega arith)
+    (λ _. cond_both (ltb w.sent w.send) (Sending Status) _ (λ q. Bill q w made n) (λ _. omega arith) (λ _. h))
 
 -- the last read of a poll: ready, or one more that is not
 space_bill : (t : Bool) (w : Work) (made n : ℕ) → made ≡ 2 + 3 * n → Bill (space_by (cond t Ready Unready)) w (made + 1) (n + cond t 0 1)
@@ -94,40 +84,10 @@ receiving_bill : (t : Bool) (w : Work) (made n : ℕ) → made ≡ cost w + 2 + 
 receiving_bill true w made n h = omega arith
 receiving_bill false w made n h = send_bill w (made + 1) (n + 1) (omega arith)
 
--- the first: an error, or on
-space_first : (t : Bool) (w : Work) (made n : ℕ) → made ≡ 3 * n → Bill (space_by (cond t Failed (Next Sizes))) w (made + 1) (n + 0)
-space_first true w made n h = tt
-space_first false w made n h = omega arith
-
-sending_first : (t : Bool) (w : Work) (made n : ℕ) → made ≡ cost w + 3 * n
-    → Bill (sending_by w (cond t Failed (Next Sizes))) w (made + 1) (n + 0)
-sending_first true w made n h = tt
-sending_first false w made n h = omega arith
-
-receiving_first : (t : Bool) (w : Work) (made n : ℕ) → made ≡ cost w + 3 * n
-    → Bill (receiving_by w (cond t Failed (Next Sizes))) w (made + 1) (n + 0)
-receiving_first true w made n h = tt
-receiving_first false w made n h = omega arith
-
--- the second: an exponent over 4, or on
-space_second : (t : Bool) (w : Work) (x made n : ℕ) → made ≡ 1 + 3 * n
-    → Bill (space_by (cond t TooDeep (Next (Counts x)))) w (made + 1) (n + 0)
-space_second true w x made n h = tt
-space_second false w x made n h = omega arith
-
-sending_second : (t : Bool) (w : Work) (x made n : ℕ) → made ≡ cost w + 1 + 3 * n
-    → Bill (sending_by w (cond t TooDeep (Next (Counts x)))) w (made + 1) (n + 0)
-sending_second true w x made n h = tt
-sending_second false w x made n h = omega arith
-
-receiving_second : (t : Bool) (w : Work) (x made n : ℕ) → made ≡ cost w + 1 + 3 * n
-    → Bill (receiving_by w (cond t TooDeep (Next (Counts x)))) w (made + 1) (n + 0)
-receiving_second true w x made n h = tt
-receiving_second false w x made n h = omega arith
-
-recovery_bill : (t : Bool) (d : Direction) (w : Work) (made n : ℕ) → Bill (cond t (Ended (Err (Fifo d))) (Recovery d)) w made n
-recovery_bill true d w made n = tt
-recovery_bill false d w made n = tt
+-- the first: an error, or on; the second: an exponent over 4, or on
+read_bill : (at : Polled → Stage) (w : Work) (made n : ℕ) (t : Bool) (p q : Polled) → Bill (at p) w (made + 1) (n + 0)
+    → Bill (at q) w (made + 1) (n + 0) → Bill (at (cond t p q)) w (made + 1) (n + 0)
+read_bill at w made n t p q g h = cond_both t p q (λ x. Bill (at x) w (made + 1) (n + 0)) (λ _. g) (λ _. h)
 
 -- one access
 bill_on : (p : Stage) (w : Work) (r : Sequence) (v made n used answers : ℕ) → halted (due_access (at p w r)) used answers ≡ false
@@ -135,22 +95,23 @@ bill_on : (p : Stage) (w : Work) (r : Sequence) (v made n used answers : ℕ) �
     → Bill (resumed (at p w r) (answer_of (due_access (at p w r)) v)).phase
     (resumed (at p w r) (answer_of (due_access (at p w r)) v)).work (made + 1) (n + unready_in p v)
 unfolding due_access resumed
-bill_on (Space Status) w r v made n used answers l t h = space_first (failed Tx v) w made n (omega arith)
-bill_on (Space Sizes) w r v made n used answers l t h = space_second (too_deep v) w v made n h
+bill_on (Space Status) w r v made n used answers l t h = read_bill space_by w made n (failed Tx v) _ _ tt (omega arith)
+bill_on (Space Sizes) w r v made n used answers l t h = read_bill space_by w made n (too_deep v) _ _ tt (omega arith)
 bill_on (Space (Counts x)) w r v made n used answers l t h = space_bill (ready Tx x v) w made n h
 bill_on Command w r v made n used answers l t h = send_bill w (made + 1) (n + 0) (omega arith)
-bill_on (Sending Status) w r v made n used answers l t h = sending_first (failed Tx v) w made n (omega arith)
-bill_on (Sending Sizes) w r v made n used answers l t h = sending_second (too_deep v) w v made n h
+bill_on (Sending Status) w r v made n used answers l t h = read_bill (sending_by w) w made n (failed Tx v) _ _ tt (omega arith)
+bill_on (Sending Sizes) w r v made n used answers l t h = read_bill (sending_by w) w made n (too_deep v) _ _ tt (omega arith)
 bill_on (Sending (Counts x)) w r v made n used answers l t h = sending_bill (ready Tx x v) w made n h
 bill_on Send w r v made n used answers l t h = send_bill (one_sent w) (made + 1) (n + 0) (omega (arith, counted_up w.sent w.send t))
-bill_on (Receiving Status) w r v made n used answers l t h = receiving_first (failed Rx v) w made n (omega arith)
-bill_on (Receiving Sizes) w r v made n used answers l t h = receiving_second (too_deep v) w v made n h
+bill_on (Receiving Status) w r v made n used answers l t h = read_bill (receiving_by w) w made n (failed Rx v) _ _ tt (omega arith)
+bill_on (Receiving Sizes) w r v made n used answers l t h = read_bill (receiving_by w) w made n (too_deep v) _ _ tt (omega arith)
 bill_on (Receiving (Counts x)) w r v made n used answers l t h = receiving_bill (ready Rx x v) w made n h
 bill_on Receive w r v made n used answers l t h =
     receive_bill (one_received w) (made + 1) (n + 0) (omega (arith, counted_up w.received w.receive t))
 bill_on (Recovery d) w r v made n used answers l t h =
-    recovery_bill (recovered (recovery_after r (answer_of (due_access (at (Recovery d) w r)) v))) d w (made + 1) (n + 0)
-bill_on (Ended e) w r v made n used answers l t h = absurd (let z : ◌≡◌ {A = ℕ} 0 1 = cc in omega arith)
+    cond_both (recovered (recovery_after r (answer_of (due_access (at (Recovery d) w r)) v))) _ _ (λ q. Bill q w (made + 1) (n + 0))
+    (λ _. tt) (λ _. tt)
+bill_on (Ended e) w r v made n used answers l t h = absurd (grind arith)
 
 billed_on : Kept Billed
 billed_on t l value v n used answers go turn h =
@@ -160,7 +121,7 @@ module _ (script : List ℕ) (words : List ℕ → ℕ → ℕ) (d : Lpspi) (com
   -- AN OK RUN of so many words to send and to receive makes exactly so many accesses
   pub ok_exactly : (send receive : ℕ)
       → ending_of (due_access (run due_access resumed words script budget (start (start_transfer d command send receive))).machine)
-      ≡ Ok
+      ≡ Ok tt
       → length (run due_access resumed words script budget (start (start_transfer d command send receive))).log
       ≡ 4 + 4 * send + 4 * receive + 3 * unready_polls script words budget (start (start_transfer d command send receive))
   ok_exactly send receive e =

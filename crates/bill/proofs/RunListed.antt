@@ -1,5 +1,6 @@
 -- w off the log: a run that ended Ok has as many unready polls as its log has reads of FSR that a read of SR follows.
 -- Assumes nothing.
+use Rattle.std.proofs.lemmas.Bool.{cond_both}
 use Prim.Native.Nat.{ℕ, ◌+◌, ◌*◌, ◌<◌}
 use mathlib.Core.Bool.{Bool, true, false, cond}
 use mathlib.Core.List.{List, [], ◌∷◌, ◌++◌}
@@ -11,18 +12,17 @@ use lib.ListN.{length, drop}
 use borrow.Author.Tests.{lt-ltb}
 use Rattle.manual.specs.declared.Register.TheVariants.{FSR}
 use Rattle.manual.specs.Manual.{offset_of}
-use Rattle.words.specs.declared.transaction.Direction.{Direction}
 use Rattle.words.specs.declared.transaction.Direction.TheVariants.{Tx, Rx}
-use Rattle.words.specs.declared.transaction.LpspiError.TheVariants.{Fifo}
-use Rattle.sequences.specs.declared.access.Ending.{Ending}
-use Rattle.sequences.specs.declared.access.Ending.TheVariants.{Ok, Err, Stopped, Limits, ZeroClock, FifoExponent}
+use Rattle.sequences.specs.Access.{Ending}
+use Rattle.std.specs.Prelude.{Ok, Err}
 use Rattle.sequences.specs.declared.driver.Lpspi.{Lpspi}
 use Rattle.sequences.specs.declared.sequence.Sequence.{Sequence}
 use Rattle.sequences.specs.Sequence.{too_deep}
 use Rattle.sequences.specs.Recovery.{recovery_after, recovered}
+use Rattle.machine.specs.declared.poll.Polled.{Polled}
 use Rattle.machine.specs.declared.poll.Poll.{Poll}
 use Rattle.machine.specs.declared.poll.Poll.TheVariants.{Status, Sizes, Counts}
-use Rattle.machine.specs.declared.poll.Polled.TheVariants.{Failed, TooDeep, Next, Ready, Unready}
+use Rattle.machine.specs.declared.poll.Polled.TheVariants.{Ready, Unready}
 use Rattle.machine.specs.declared.transfer.Stage.{Stage}
 use Rattle.machine.specs.declared.transfer.Stage.TheVariants.{Space, Command, Sending, Send, Receiving, Receive, Recovery, Ended}
 use Rattle.machine.specs.declared.transfer.Transfer.{Transfer}
@@ -65,12 +65,8 @@ Polling Sizes last made n = n ≡ made
 Polling (Counts x) last made n = n ≡ made
 
 abbrev Final : Ending → ℕ → ℕ → Type 0
-Final Ok made n = n ≡ made
+Final (Ok u) made n = n ≡ made
 Final (Err e) made n = Unit {0}
-Final Stopped made n = Unit {0}
-Final Limits made n = Unit {0}
-Final ZeroClock made n = Unit {0}
-Final FifoExponent made n = Unit {0}
 
 abbrev Shown : Stage → Bool → ℕ → ℕ → Type 0
 Shown (Space p) last made n = Polling p last made n
@@ -84,66 +80,30 @@ Shown (Ended e) last made n = Final e made n
 
 -- behind a word, or TCR
 send_shown : (w : Work) (made n : ℕ) → n ≡ made → Shown (send_turn w) false made n
-send_shown w made n h = by_test (ltb w.sent w.send) (ltb w.received w.receive)
-  where
-    by_test : (t u : Bool) → Shown (cond t (Sending Status) (cond u (Receiving Status) (Ended Ok))) false made n
-    by_test true u = omega arith
-    by_test false true = omega arith
-    by_test false false = h
+send_shown w made n h =
+    cond_both (ltb w.sent w.send) (Sending Status) _ (λ q. Shown q false made n) (λ _. omega arith)
+    (λ _. cond_both (ltb w.received w.receive) (Receiving Status) _ (λ q. Shown q false made n) (λ _. omega arith) (λ _. h))
 
 receive_shown : (w : Work) (made n : ℕ) → n ≡ made → Shown (receive_turn w) false made n
-receive_shown w made n h = by_test (ltb w.received w.receive) (ltb w.sent w.send)
-  where
-    by_test : (t u : Bool) → Shown (cond t (Receiving Status) (cond u (Sending Status) (Ended Ok))) false made n
-    by_test true u = omega arith
-    by_test false true = omega arith
-    by_test false false = h
+receive_shown w made n h =
+    cond_both (ltb w.received w.receive) (Receiving Status) _ (λ q. Shown q false made n) (λ _. omega arith)
+    (λ _. cond_both (ltb w.sent w.send) (Sending Status) _ (λ q. Shown q false made n) (λ _. omega arith) (λ _. h))
 
 -- behind an unready poll: its side has words left, so one more poll follows
 send_waits : (w : Work) (made n : ℕ) → w.sent < w.send → n ≡ made + 1 → Shown (receive_turn w) true made n
-send_waits w made n left h = by_test (ltb w.received w.receive) (ltb w.sent w.send) (lt-ltb w.sent w.send left)
-  where
-    by_test : (t u : Bool) → u ≡ true → Shown (cond t (Receiving Status) (cond u (Sending Status) (Ended Ok))) true made n
-    by_test true u e = h
-    by_test false true e = h
-    by_test false false e = absurd (let z : ◌≡◌ {A = ℕ} 0 1 = cc in omega arith)
+send_waits w made n left h =
+    rw (lt-ltb w.sent w.send left)
+    (cond_both (ltb w.received w.receive) (Receiving Status) (Sending Status) (λ q. Shown q true made n) (λ _. h) (λ _. h))
 
 receive_waits : (w : Work) (made n : ℕ) → w.received < w.receive → n ≡ made + 1 → Shown (send_turn w) true made n
-receive_waits w made n left h = by_test (ltb w.sent w.send) (ltb w.received w.receive) (lt-ltb w.received w.receive left)
-  where
-    by_test : (t u : Bool) → u ≡ true → Shown (cond t (Sending Status) (cond u (Receiving Status) (Ended Ok))) true made n
-    by_test true u e = h
-    by_test false true e = h
-    by_test false false e = absurd (let z : ◌≡◌ {A = ℕ} 0 1 = cc in omega arith)
+receive_waits w made n left h =
+    rw (lt-ltb w.received w.receive left)
+    (cond_both (ltb w.sent w.send) (Sending Status) (Receiving Status) (λ q. Shown q true made n) (λ _. h) (λ _. h))
 
-space_first : (t last : Bool) (made n : ℕ) → n ≡ made + cond last 1 0
-    → Shown (space_by (cond t Failed (Next Sizes))) false (made + cond last 1 0) (n + 0)
-space_first true last made n h = tt
-space_first false last made n h = rw add-zero h
-
-sending_first : (t last : Bool) (w : Work) (made n : ℕ) → n ≡ made + cond last 1 0
-    → Shown (sending_by w (cond t Failed (Next Sizes))) false (made + cond last 1 0) (n + 0)
-sending_first true last w made n h = tt
-sending_first false last w made n h = rw add-zero h
-
-receiving_first : (t last : Bool) (w : Work) (made n : ℕ) → n ≡ made + cond last 1 0
-    → Shown (receiving_by w (cond t Failed (Next Sizes))) false (made + cond last 1 0) (n + 0)
-receiving_first true last w made n h = tt
-receiving_first false last w made n h = rw add-zero h
-
-space_second : (t : Bool) (x made n : ℕ) → n ≡ made → Shown (space_by (cond t TooDeep (Next (Counts x)))) false (made + 0) (n + 0)
-space_second true x made n h = tt
-space_second false x made n h = omega arith
-
-sending_second : (t : Bool) (w : Work) (x made n : ℕ) → n ≡ made
-    → Shown (sending_by w (cond t TooDeep (Next (Counts x)))) false (made + 0) (n + 0)
-sending_second true w x made n h = tt
-sending_second false w x made n h = omega arith
-
-receiving_second : (t : Bool) (w : Work) (x made n : ℕ) → n ≡ made
-    → Shown (receiving_by w (cond t TooDeep (Next (Counts x)))) false (made + 0) (n + 0)
-receiving_second true w x made n h = tt
-receiving_second false w x made n h = omega arith
+-- the first read of a poll: an error, or on; the second: an exponent over 4, or on
+read_shown : (at : Polled → Stage) (made n : ℕ) (t : Bool) (p q : Polled) → Shown (at p) false made n → Shown (at q) false made n
+    → Shown (at (cond t p q)) false made n
+read_shown at made n t p q g h = cond_both t p q (λ x. Shown (at x) false made n) (λ _. g) (λ _. h)
 
 space_last : (t : Bool) (made n : ℕ) → n ≡ made → Shown (space_by (cond t Ready Unready)) true (made + 0) (n + cond t 0 1)
 space_last true made n h = omega arith
@@ -159,10 +119,6 @@ receiving_last : (t : Bool) (w : Work) (made n : ℕ) → w.received < w.receive
 receiving_last true w made n left h = omega arith
 receiving_last false w made n left h = receive_waits w (made + 0) (n + 1) left (omega arith)
 
-recovery_shown : (t last : Bool) (d : Direction) (made n : ℕ) → Shown (cond t (Ended (Err (Fifo d))) (Recovery d)) last made n
-recovery_shown true last d made n = tt
-recovery_shown false last d made n = tt
-
 -- one access
 shown_on : (p : Stage) (w : Work) (r : Sequence) (v made n used answers : ℕ) (last : Bool)
     → halted (due_access (at p w r)) used answers ≡ false → Standing p w
@@ -170,21 +126,23 @@ shown_on : (p : Stage) (w : Work) (r : Sequence) (v made n used answers : ℕ) (
     → Shown (resumed (at p w r) (answer_of (due_access (at p w r)) v)).phase (eqb (code_of (due_access (at p w r))) (offset_of FSR))
     (made + again last (code_of (due_access (at p w r)))) (n + unready_in p v)
 unfolding due_access resumed
-shown_on (Space Status) w r v made n used answers last go t h = space_first (failed Tx v) last made n h
-shown_on (Space Sizes) w r v made n used answers last go t h = space_second (too_deep v) v made n h
+shown_on (Space Status) w r v made n used answers last go t h = read_shown space_by _ _ (failed Tx v) _ _ tt (rw add-zero h)
+shown_on (Space Sizes) w r v made n used answers last go t h = read_shown space_by _ _ (too_deep v) _ _ tt (omega arith)
 shown_on (Space (Counts x)) w r v made n used answers last go t h = space_last (ready Tx x v) made n h
 shown_on Command w r v made n used answers last go t h = send_shown w (made + 0) (n + 0) (omega arith)
-shown_on (Sending Status) w r v made n used answers last go t h = sending_first (failed Tx v) last w made n h
-shown_on (Sending Sizes) w r v made n used answers last go t h = sending_second (too_deep v) w v made n h
+shown_on (Sending Status) w r v made n used answers last go t h = read_shown (sending_by w) _ _ (failed Tx v) _ _ tt (rw add-zero h)
+shown_on (Sending Sizes) w r v made n used answers last go t h = read_shown (sending_by w) _ _ (too_deep v) _ _ tt (omega arith)
 shown_on (Sending (Counts x)) w r v made n used answers last go t h = sending_last (ready Tx x v) w made n t h
 shown_on Send w r v made n used answers last go t h = send_shown (one_sent w) (made + 0) (n + 0) (omega arith)
-shown_on (Receiving Status) w r v made n used answers last go t h = receiving_first (failed Rx v) last w made n h
-shown_on (Receiving Sizes) w r v made n used answers last go t h = receiving_second (too_deep v) w v made n h
+shown_on (Receiving Status) w r v made n used answers last go t h = read_shown (receiving_by w) _ _ (failed Rx v) _ _ tt (rw add-zero h)
+shown_on (Receiving Sizes) w r v made n used answers last go t h = read_shown (receiving_by w) _ _ (too_deep v) _ _ tt (omega arith)
 shown_on (Receiving (Counts x)) w r v made n used answers last go t h = receiving_last (ready Rx x v) w made n t h
 shown_on Receive w r v made n used answers last go t h = receive_shown (one_received w) (made + 0) (n + 0) (omega arith)
 shown_on (Recovery d) w r v made n used answers last go t h =
-    recovery_shown (recovered (recovery_after r (answer_of (due_access (at (Recovery d) w r)) v))) _ d _ (n + 0)
-shown_on (Ended e) w r v made n used answers last go t h = absurd (let z : ◌≡◌ {A = ℕ} 0 1 = cc in omega arith)
+    let code = code_of (due_access (at (Recovery d) w r)) in
+    cond_both (recovered (recovery_after r (answer_of (due_access (at (Recovery d) w r)) v))) _ _
+    (λ q. Shown q (eqb code (offset_of FSR)) (made + again last code) (n + 0)) (λ _. tt) (λ _. tt)
+shown_on (Ended e) w r v made n used answers last go t h = absurd (grind arith)
 
 abbrev Listed : Holding
 Listed p w l n = Shown p (last_counts false l) (again_in false l) n
@@ -198,7 +156,7 @@ module _ (script : List ℕ) (words : List ℕ → ℕ → ℕ) (d : Lpspi) (com
   -- AN OK RUN: its unready polls, counted off its log, which lies over the front of an older one
   pub ok_listed : (send receive : ℕ) (old : List ℕ)
       → ending_of (due_access (run due_access resumed words script budget (start (start_transfer d command send receive))).machine)
-      ≡ Ok
+      ≡ Ok tt
       → unready_polls script words budget (start (start_transfer d command send receive))
       ≡ (let l = (run due_access resumed words script budget (start (start_transfer d command send receive))).log in
       polls_again (length l) (log_over old l))

@@ -8,7 +8,7 @@ use native.Mathlib.Nat.{add-zero, zero-add, add_assoc}
 use lib.ListN.{length, get_or}
 use Rattle.sequences.specs.declared.access.Access.{Access}
 use Rattle.sequences.specs.declared.access.Access.TheVariants.{Read, Write, Done, Send as SendWord, Receive as ReceiveWord}
-use Rattle.sequences.specs.declared.access.Ending.TheVariants.{Ok}
+use Rattle.std.specs.Prelude.{Ok}
 use Rattle.machine.specs.declared.transfer.Stage.{Stage}
 use Rattle.machine.specs.declared.transfer.Stage.TheVariants.{Ended}
 use Rattle.machine.specs.declared.transfer.Transfer.{Transfer}
@@ -34,7 +34,7 @@ Kept Holds =
     (l ++ (entry t value ∷ [])) (n + unready_in t.phase v)
 
 -- a run ends Ok where its machine answers Ok
-pub ok_done : (a : Access) → ending_of a ≡ Ok → a ≡ Done Ok
+pub ok_done : (a : Access) → ending_of a ≡ Ok tt → a ≡ Done (Ok tt)
 ok_done (Read r) e = cc
 ok_done (Write r v) e = cc
 ok_done (SendWord i) e = cc
@@ -74,11 +74,11 @@ module _ (script : List ℕ) (words : List ℕ → ℕ → ℕ) (send receive : 
       (placed_step send receive words script s p) (step_keeps s n p h))
 
   pub ok_keeps : (budget : ℕ) (s : State Transfer) → Placed send receive s.machine (length s.received) → Now s 0
-      → ending_of (due_access (run due_access resumed words script budget s).machine) ≡ Ok
-      → Holds (Ended Ok) (run due_access resumed words script budget s).machine.work
+      → ending_of (due_access (run due_access resumed words script budget s).machine) ≡ Ok tt
+      → Holds (Ended (Ok tt)) (run due_access resumed words script budget s).machine.work
       (run due_access resumed words script budget s).log (unready_polls script words budget s)
   ok_keeps budget s p h e =
       let t : Transfer = (run due_access resumed words script budget s).machine in
       subst (λ (q : Stage). Holds q t.work (run due_access resumed words script budget s).log (unready_polls script words budget s))
-      (done_phase t.phase t.work t.reset Ok (ok_done (due_access t) e))
+      (done_phase t.phase t.work t.reset (Ok tt) (ok_done (due_access t) e))
       (rw (← zero-add (unready_polls script words budget s)) (run_keeps budget s 0 p h))

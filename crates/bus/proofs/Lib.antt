@@ -1,6 +1,5 @@
 pub mod QueuedLaws
-mod HeldLaws
-mod StationLaws
+mod PairLaws
 mod RunLaws
 mod BeginLaws
 mod TrialLaws

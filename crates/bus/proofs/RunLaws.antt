@@ -1,13 +1,6 @@
 -- A list of events as the code runs it.
 -- Assumes nothing.
-use Prim.Native.Nat.{ℕ, zero, suc, ◌+◌, ◌<◌, ◌≤◌}
-use mathlib.Core.Bool.{Bool, true}
-use mathlib.Core.List.{List, [], ◌∷◌}
-use mathlib.Core.Path.{◌≡◌, refl, sym, ap, ap₂, ◌∙◌, subst}
-use native.Mathlib.Numerals.{add-one}
-use native.Mathlib.Omega.{arith}
-use lib.ListN.{length, get_or, take}
-use lib.Seq.{length-take-le}
+use Rattle.std.proofs.Common.{ℕ, zero, suc, ◌+◌, ◌<◌, Bool, true, List, [], ◌∷◌, ◌≡◌, refl, sym, ap, ◌∙◌, subst, length, get_or, take, add-one, arith, length-take-le}
 use Rattle.manual.specs.declared.Register.{Register}
 use Rattle.manual.specs.declared.Register.TheVariants.{PARAM, CR, SR, IER, DER, CFGR0, CFGR1, DMR0}
 use Rattle.manual.specs.declared.Register.TheVariants.{DMR1, CCR, FCR, FSR, TCR, TDR, RSR, RDR}
@@ -18,20 +11,19 @@ use Rattle.agreement.specs.declared.event.Event.{Event}
 use Rattle.agreement.specs.declared.event.Event.TheVariants.{Step, Clock, Noise}
 use Rattle.agreement.specs.declared.event.Side.TheVariants.{Gate, Antenna}
 use Rattle.agreement.specs.declared.register.Role.TheVariants.{Commands as commands}
-use Rattle.agreement.specs.Start.{Start, frame_words, accepted, Job, job}
+use Rattle.agreement.specs.Start.{Start, total, frame_words, accepted, Job, job}
 use Rattle.agreement.specs.Codes.{event_of, events_of}
 use Rattle.agreement.specs.End.{words_in, role_of, Wire, wire_after, registers_after, End, end_access, stepped}
 use Rattle.agreement.specs.Events.{Pair, pair, clocked_by, happened, after, fresh_pair, pair_after}
 use Rattle.agreement.proofs.StartFacts.{fit}
 use Rattle.agreement.proofs.Demand3.{gate_receives, antenna_receives, gate_sends, antenna_sends}
 use Rattle.agreement.proofs.Demand3.{gate_command_first, antenna_command_first}
-use Rattle.bus.specs.declared.clock.Stations.{Stations}
-use Rattle.bus.specs.declared.station.Link.{Link}
-use Rattle.bus.specs.declared.station.Station.{Station}
-use Rattle.bus.specs.Held.{end_of, link_job, Idle, Provided, Linked, Room}
-use Rattle.bus.specs.View.{queue_of}
+use Rattle.bus.specs.declared.pair.Peers.{Peers}
+use Rattle.bus.specs.declared.peer.Peer.{Peer}
+use Rattle.bus.specs.Held.{end_of, pair_of, Idle, Provided, Linked}
+use Rattle.bus.proofs.BeginLaws.{few_words}
 use Rattle.bus.proofs.QueuedLaws.{nothing_queued}
-use Rattle.bus.proofs.StationLaws.{word_due, same_end}
+use Rattle.bus.proofs.PairLaws.{word_due, same_end}
 
 -- one event more
 after_last : (j k : Job) (p : Pair) (bytes : List ℕ) (i : ℕ) → i < length bytes
@@ -60,33 +52,29 @@ command_register TDR h = cc
 command_register RSR h = cc
 command_register RDR h = cc
 
--- no word is queued where an end that stands where the definition's does writes its command
-idle_for : (s : Station) (words registers : List ℕ) (x : End) → end_of s words registers ≡ x
-    → ((v : ℕ) → due_access x.transfer ≡ Write TCR v → x.wire.transmit ≡ [])
-    → Idle (end_access s.transfer s.flush) s.port
-idle_for s words registers x e alone = by_access (end_access s.transfer s.flush) refl
+-- what the access that is due needs, of an end that stands where the definition's does
+provided : (p : Peer) (b : Start)
+    → ((v : ℕ) → due_access (end_of p).transfer ≡ Write TCR v → (end_of p).wire.transmit ≡ [])
+    → ((i : ℕ) → due_access (end_of p).transfer ≡ Receive i → (accepted b ≡ true) × (length (end_of p).received < frame_words b))
+    → Provided p
+provided p b alone receives =
+    record { place = room; idle = by_access (end_access p.station.transfer p.station.flush) refl }
   where
-    by_access : (b : Access) → end_access s.transfer s.flush ≡ b → Idle b s.port
+    room : (i : ℕ) → end_access p.station.transfer p.station.flush ≡ Receive i → p.received < 128
+    room i h =
+        let r = receives i (word_due p.station.transfer p.station.flush (Receive i) refl h) in
+        omega (arith, length-take-le p.received p.words p.within, r.1, few_words b.board.width (total b) r.0)
+
+    by_access : (a : Access) → end_access p.station.transfer p.station.flush ≡ a → Idle a p.station.port
     by_access (Read r) h = tt
     by_access (Write r v) h = λ (o : role_of r ≡ commands).
-        let due : due_access s.transfer ≡ Write TCR v =
-        word_due s.transfer s.flush (Write r v) refl h ∙ ap (λ (q : Register). Write q v) (command_register r o) in
-        nothing_queued s.port.commands (queue_of s.port.transmit)
-        (ap (λ (y : End). y.wire.transmit) e ∙ alone v (ap (λ (y : End). due_access y.transfer) (sym e) ∙ due))
+        let due : due_access p.station.transfer ≡ Write TCR v =
+        word_due p.station.transfer p.station.flush (Write r v) refl h
+        ∙ ap (λ (q : Register). Write q v) (command_register r o) in
+        nothing_queued p.station.port.commands p.station.port.transmit (alone v due)
     by_access (Send i) h = tt
     by_access (Receive i) h = tt
     by_access (Done z) h = tt
-
--- room for the next word, of such an end
-room_for : (s : Station) (words registers : List ℕ) (x : End) (b : Start) → end_of s words registers ≡ x → s.received ≤ length words
-    → (accepted b ≡ true → frame_words b ≤ length words)
-    → ((i : ℕ) → due_access x.transfer ≡ Receive i → (accepted b ≡ true) × (length x.received < frame_words b))
-    → (i : ℕ) → due_access s.transfer ≡ Receive i → s.received < length words
-room_for s words registers x b e within room receives i h =
-    let r = receives i (ap (λ (y : End). due_access y.transfer) (sym e) ∙ h) in
-    let n : length x.received ≡ s.received =
-    ap (λ (y : End). length y.received) (sym e) ∙ length-take-le s.received words within in
-    omega (arith, n, r.1, room r.0)
 
 -- A STEP DEPENDS ON THE WORDS only where one is sent
 wire_at : (e : ℕ) (u v : ℕ → ℕ) (a : Access) (w : Wire) → ((i : ℕ) → a ≡ Send i → u i ≡ v i) → wire_after e u a w ≡ wire_after e v a w
@@ -135,42 +123,32 @@ same_event j k j' k' p Clock e f g h = same_clock j k j' k' (words_in p.gate.wir
 same_event j k j' k' p (Noise Gate d) e f g h = refl
 same_event j k j' k' p (Noise Antenna d) e f g h = refl
 
-module _ (g a : Start) (gl al : Link) (gate_send antenna_send : List ℕ) where
-  pub one_more : (gs hs : Station) (gw aw gr ar : List ℕ) → Linked g a gl al gate_send antenna_send (length gw) (length aw)
-      → gs.received ≤ length gw → hs.received ≤ length aw
-      → (bytes : List ℕ) (i : ℕ) → i < length bytes → pair (end_of gs gw gr) (end_of hs aw ar) ≡ pair_after g a (events_of (take i bytes))
-      → (v : Event) → v ≡ event_of (get_or bytes i 0) → (p : Pair)
-      → (Provided gs gw → Provided hs aw
-      → p ≡ happened (link_job gl gate_send) (link_job al antenna_send) (pair (end_of gs gw gr) (end_of hs aw ar)) v)
+module _ (g a : Start) (gate_job antenna_job : Job) (l : Linked g a gate_job antenna_job) where
+  -- of the pair after some of the events: what both ends need, and the pair after the next event
+  pub one_more : (x : Peers) (bytes : List ℕ) (i : ℕ) → i < length bytes → pair_of x ≡ pair_after g a (events_of (take i bytes))
+      → (p : Pair)
+      → (Provided x.gate → Provided x.antenna → p ≡ happened gate_job antenna_job (pair_of x) (event_of (get_or bytes i 0)))
       → p ≡ pair_after g a (events_of (take (i + 1) bytes))
-  one_more gs hs gw aw gr ar l wg wa bytes i h e v ev p next =
+  one_more x bytes i h e p next =
       let f = fit g a l.fits in
       let vs = events_of (take i bytes) in
-      let q = pair_after g a vs in
-      let eg = ap (λ (x : Pair). x.gate) e in
-      let ea = ap (λ (x : Pair). x.antenna) e in
       next
-      (record {
-        place = room_for gs gw gr q.gate g eg wg l.gate.room (gate_receives g a f vs);
-        idle = idle_for gs gw gr q.gate eg (λ v h. gate_command_first g a f vs v h);
-      })
-      (record {
-        place = room_for hs aw ar q.antenna a ea wa l.antenna.room (antenna_receives g a f vs);
-        idle = idle_for hs aw ar q.antenna ea (λ v h. antenna_command_first g a f vs v h);
-      })
-      ∙ ap₂ (happened (link_job gl gate_send) (link_job al antenna_send)) e ev
-      ∙ same_event (link_job gl gate_send) (link_job al antenna_send) (job g) (job a) q (event_of (get_or bytes i 0))
-      l.gate.exponent l.antenna.exponent
-      (λ k d. l.gate.words (gate_sends g a f vs k d).0 q.gate.received k)
-      (λ k d. l.antenna.words (antenna_sends g a f vs k d).0 q.antenna.received k)
+      (provided x.gate g
+      (subst (λ (q : Pair). (v : ℕ) → due_access q.gate.transfer ≡ Write TCR v → q.gate.wire.transmit ≡ []) (sym e)
+      (λ v d. gate_command_first g a f vs v d))
+      (subst
+      (λ (q : Pair).
+      (k : ℕ) → due_access q.gate.transfer ≡ Receive k → (accepted g ≡ true) × (length q.gate.received < frame_words g))
+      (sym e) (gate_receives g a f vs)))
+      (provided x.antenna a
+      (subst (λ (q : Pair). (v : ℕ) → due_access q.antenna.transfer ≡ Write TCR v → q.antenna.wire.transmit ≡ []) (sym e)
+      (λ v d. antenna_command_first g a f vs v d))
+      (subst
+      (λ (q : Pair).
+      (k : ℕ) → due_access q.antenna.transfer ≡ Receive k → (accepted a ≡ true) × (length q.antenna.received < frame_words a))
+      (sym e) (antenna_receives g a f vs)))
+      ∙ ap (λ (q : Pair). happened gate_job antenna_job q (event_of (get_or bytes i 0))) e
+      ∙ same_event gate_job antenna_job (job g) (job a) (pair_after g a vs) (event_of (get_or bytes i 0)) l.gate.exponent l.antenna.exponent
+      (λ k d. l.gate.words (gate_sends g a f vs k d).0 (pair_after g a vs).gate.received k)
+      (λ k d. l.antenna.words (antenna_sends g a f vs k d).0 (pair_after g a vs).antenna.received k)
       ∙ rw (add-one i) (sym (after_last (job g) (job a) (fresh_pair g a) bytes i h))
-
-  pub relinked : {m n m' n' : ℕ} → m' ≡ m → n' ≡ n → Linked g a gl al gate_send antenna_send m n → Linked g a gl al gate_send antenna_send m' n'
-  relinked {m} {n} {m'} {n'} em en l =
-      subst (λ (i : ℕ). Linked g a gl al gate_send antenna_send m' i) (sym en)
-      (subst (λ (i : ℕ). Linked g a gl al gate_send antenna_send i n) (sym em) l)
-
--- room among so many places
-pub resized : {gl al : Link} {ends : Stations} {m n m' n' : ℕ} → m' ≡ m → n' ≡ n → Room gl al ends m n → Room gl al ends m' n'
-resized {gl} {al} {ends} {m} {n} {m'} {n'} em en h =
-    subst (λ (i : ℕ). Room gl al ends m' i) (sym en) (subst (λ (i : ℕ). Room gl al ends i n) (sym em) h)

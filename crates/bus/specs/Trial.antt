@@ -1,6 +1,6 @@
 -- THE PAIR ENTRY, of elements of k bits: two boards, the buffers that they are lent, and events as bytes.
 -- Assumes nothing.
-use Rattle.std.specs.Prelude.{ℕ, Bool, cond, ◌||◌, List, ◌≡◌}
+use Rattle.std.specs.Prelude.{ℕ, Bool, cond, ◌||◌, List, ◌≡◌, Result, Ok, Err}
 use Rattle.agreement.specs.declared.board.Board.{Board}
 use Rattle.agreement.specs.Start.{Start, element_bits, unequal, unfit}
 use Rattle.agreement.specs.End.{fresh_end}
@@ -8,6 +8,7 @@ use Rattle.agreement.specs.Events.{pair_after}
 use Rattle.agreement.specs.Agreement.{Seen, seen, buffer_of, Agreement}
 use Rattle.agreement.specs.Codes.{events_of}
 use Rattle.bus.specs.declared.trial.Outcome.{Outcome}
+use Rattle.bus.specs.declared.trial.Unfit.{Unfit}
 use Rattle.bus.specs.View.{state_of}
 
 -- a board with its buffers, at fresh
@@ -18,6 +19,11 @@ start_of b read write = record { board = b; read = read; write = write }
 -- the buffers, and then, where the boards fit, neither is the antenna's
 abbrev pub unpaired : ℕ → Start → Start → Bool
 unpaired k g a = unequal (element_bits g) k || unfit g a
+
+-- document 01's number: 9 where the boards do not fit
+abbrev pub number_of : Result (Unit {0}) Unfit → ℕ
+number_of (Ok x) = 0
+number_of (Err e) = 9
 
 -- what a trial leaves: its number, both ends, and both read buffers
 pub record TrialLeft : Type 0 where
@@ -31,7 +37,7 @@ pub record TrialLeft : Type 0 where
 abbrev pub trial_left : Outcome → List ℕ → List ℕ → TrialLeft
 trial_left r gate_read antenna_read =
     record {
-      number = r.number;
+      number = number_of r.result;
       gate = state_of r.gate;
       antenna = state_of r.antenna;
       gate_read = gate_read;
@@ -60,6 +66,6 @@ pub record Tried (k : ℕ) (g a : Board) (gate_read gate_write antenna_read ante
   -- all of it is the definition's
   pub same : trial_left r gate_left antenna_left ≡ trial_of k g a gate_read gate_write antenna_read antenna_write events
   -- and where the boards fit, demand 3 holds of it
-  pub agreement : r.number ≡ 0
+  pub agreement : number_of r.result ≡ 0
       → Agreement (start_of g gate_read gate_write) (start_of a antenna_read antenna_write) (events_of events) (state_of r.gate)
       (state_of r.antenna) gate_left antenna_left

@@ -1,16 +1,11 @@
--- What an end's state means: the code's FIFOs as queues, its port as a wire, and what of an end can be seen.
+-- What an end's state means: its port as a wire, and what of an end can be seen. A FIFO is its queue.
 -- Assumes nothing.
-use Rattle.std.specs.Prelude.{ℕ, zero, suc, List, [], ◌∷◌, take}
+use Rattle.std.specs.Prelude.{ℕ, zero, suc, List, [], ◌∷◌}
 use Rattle.agreement.specs.End.{Item, Command, Word, Wire}
 use Rattle.agreement.specs.Agreement.{Seen}
-use Rattle.bus.specs.declared.fifo.Fifo.{Fifo}
 use Rattle.bus.specs.declared.port.Port.{Port}
 use Rattle.bus.specs.declared.station.Station.{Station}
 use Rattle.bus.specs.declared.trial.EndState.{EndState}
-
--- a FIFO's queue: of its places those that it counts, the first word first
-abbrev pub queue_of : Fifo → List ℕ
-queue_of f = take f.count f.words
 
 -- a transmit queue: so many commands, and words behind them. No other comes up: a command is only ever written into an empty queue
 -- (`Demand3.gate_command_first`, `antenna_command_first`)
@@ -21,7 +16,7 @@ queued (suc n) words = Command ∷ queued n words
 
 -- "Each end has transmit and receive queues", and flags T and R
 abbrev pub wire_of : Port → Wire
-wire_of p = record { transmit = queued p.commands (queue_of p.transmit); receive = queue_of p.receive; t = p.t; r = p.r }
+wire_of p = record { transmit = queued p.commands p.transmit; receive = p.receive; t = p.t; r = p.r }
 
 -- an end, with its registers: all of it that can be seen
 abbrev pub station_seen : Station → List ℕ → Seen

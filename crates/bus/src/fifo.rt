@@ -1,81 +1,28 @@
-// A FIFO of at most 16 words; the first stands at place 0.
-ghost use Rattle.std.specs.Prelude.{◌<◌, ◌≤◌, [], ◌∷◌, ◌++◌, ◌≡◌, length, get_or, take, drop};
-ghost use Rattle.agreement.specs.End.{front, behind};
-ghost use Rattle.bus.specs.View.{queue_of};
-ghost use Rattle.bus.specs.Held.{Sized};
+// A FIFO of at most 16 words.
+ghost use Rattle.std.specs.Prelude.{◌<◌, ◌≤◌, ℕ, List, [], ◌∷◌, ◌++◌, ◌≡◌, length, get_or, slice_get, take};
+ghost use Rattle.agreement.specs.End.{behind};
 
-#[derive(Clone, Copy)]
+use std::marker::Model;
+
+#[derive(Drop)]
 pub struct Fifo {
-    pub(crate) words: [u32; 16],
-    pub(crate) count: usize,
+    // The first word stands at place 0. Fixed memory: as many places as the largest FIFO.
+    words: [u32; 16],
+    count: usize,
 }
 
-// Each word one place further to the front.
-fn shifted(words: [u32; 16]) -> [u32; 16]
-    requires { length words ≡ 16 }
-    ensures { (length result ≡ 16) × (take 15 result ≡ drop 1 words) }
-{
-    let mut out = words;
-    for i in 0..15 {
-        out[i] = words[i + 1];
-    }
-    out
-}
+// Clauses see the words queued, the first word first.
+impl Model for Fifo {
+    ghost Value = { List ℕ };
 
-// How many of its places a FIFO counts, and the word at a place of those.
-fn counted(words: &[u32], count: usize) -> usize
-    requires { length words.now ≡ 16 }
-    ensures { (result ≡ length (take count words.now)) × (result ≤ 16) }
-{
-    if count < words.len() {
-        return count;
-    }
-    words.len()
-}
+    ghost view = { λ f. take f.count f.words };
 
-fn count_in(words: &[u32; 16], count: usize) -> usize
-    ensures { (result ≡ length (take count words.now)) × (result ≤ 16) }
-{
-    counted(words, count)
-}
-
-fn word_at(words: &[u32], count: usize, place: usize) -> u32
-    ensures { result ≡ get_or (take count words.now) place 0 }
-{
-    if count <= place {
-        return 0;
-    }
-    if words.len() <= place {
-        return 0;
-    }
-    words[place]
-}
-
-fn word_in(words: &[u32; 16], count: usize, place: usize) -> u32
-    ensures { result ≡ get_or (take count words.now) place 0 }
-{
-    word_at(words, count, place)
+    ghost invariant = { λ f. f.count ≤ 16 };
 }
 
 impl Fifo {
-    // The words queued: at most 16.
-    pub fn len(self) -> usize
-        ensures { (result ≡ length (queue_of self)) × (result ≤ 16) }
-    {
-        let words = self.words;
-        count_in(&words, self.count)
-    }
-
-    // The word queued at a place, the first at 0; 0 where there is none.
-    pub fn word(self, place: usize) -> u32
-        ensures { result ≡ get_or (queue_of self) place 0 }
-    {
-        let words = self.words;
-        word_in(&words, self.count, place)
-    }
-
     pub(crate) fn new() -> Self
-        ensures { Sized result × (queue_of result ≡ []) }
+        ensures { result ≡ [] }
     {
         Fifo {
             words: [0; 16],
@@ -83,39 +30,46 @@ impl Fifo {
         }
     }
 
-    pub(crate) fn push(self, word: u32) -> Self
-        requires { Sized self × (self.count < 16) }
-        ensures { Sized result × (queue_of result ≡ queue_of self ++ (word ∷ [])) }
+    // The words queued: at most 16.
+    pub fn len(&self) -> usize
+        ensures queued { result ≡ length self.now }
+        ensures within { result ≤ 16 }
     {
-        let i = self.count;
-        let mut f = self;
-        f.words[i] = word;
-        f.count = i + 1;
-        f
+        self.count
     }
 
-    // The first word; 0 if there is none.
-    pub(crate) fn first(self) -> u32
-        ensures { result ≡ front (queue_of self) }
+    // The word queued at a place, the first at 0; 0 where there is none.
+    pub fn word(&self, place: usize) -> u32
+        ensures { result ≡ get_or self.now place 0 }
     {
-        if self.count == 0 {
-            return 0;
-        }
-        self.words[0]
+        self.words[..self.count].get(place).copied().unwrap_or(0)
     }
 
-    // Without its first word.
-    pub(crate) fn rest(self) -> Self
-        requires { Sized self }
-        ensures { Sized result × (queue_of result ≡ behind (queue_of self)) }
+    pub(crate) fn push(&mut self, word: u32)
+        requires { length self.old < 16 }
+        ensures { self.new ≡ self.old ++ word ∷ [] }
+    {
+        self.words[self.count] = word;
+        self.count += 1;
+    }
+
+    // The first word leaves, if there is one.
+    pub(crate) fn pop(&mut self) -> Option<u32>
+        ensures first { result ≡ slice_get self.old 0 }
+        ensures rest { self.new ≡ behind self.old }
     {
         if self.count == 0 {
-            return self;
+            return None;
         }
-        let words = self.words;
-        Fifo {
-            words: shifted(words),
-            count: self.count - 1,
-        }
+        let first = self.words[0];
+        self.words.copy_within(1..self.count, 0);
+        self.count -= 1;
+        Some(first)
+    }
+
+    pub(crate) fn clear(&mut self)
+        ensures { self.new ≡ [] }
+    {
+        self.count = 0;
     }
 }

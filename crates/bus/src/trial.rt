@@ -1,273 +1,123 @@
 // Two boards over the bus: the pair entry, for elements of 8, 16 and 32 bits.
-ghost use Rattle.std.specs.Prelude.{◌≡◌};
-ghost use Rattle.words.specs.Buffer.{pack_words};
+ghost use Rattle.std.specs.Prelude.{◌≡◌, ℕ, ◌^◌, ◌<◌, get_or};
+ghost use Rattle.words.specs.Width.{width_bits};
+ghost use Rattle.words.specs.Buffer.{unpack_words};
 ghost use Rattle.words.specs.Word.{laid};
-ghost use Rattle.agreement.specs.Start.{started};
-ghost use Rattle.bus.specs.Trial.{start_of, Tried};
+ghost use Rattle.agreement.specs.Agreement.{seen};
+ghost use Rattle.bus.specs.View.{state_of};
+ghost use Rattle.bus.specs.Trial.{number_of, Tried};
+ghost use Rattle.bus.specs.Held.{end_of, Prepared};
 
 use crate::begin::{Entrant, total_of};
-use crate::pair::run_pair;
+use crate::pair::Peers;
+use crate::peer::Peer;
+use crate::register::PLACES;
 use crate::station::Station;
 use agreement::board::Board;
-use words::buffer::{
-    pack_words_u8, pack_words_u16, pack_words_u32, unpack_words_u8, unpack_words_u16,
-    unpack_words_u32,
-};
+use words::buffer::{pack_words, unpack_words};
 use words::transaction::Transaction;
-use words::width::Width;
+use words::word::Word;
+
+// Boards that do not fit: number 9.
+#[derive(Clone, Copy, PartialEq, Eq)]
+pub struct Unfit;
 
 // What an end comes to.
-#[derive(Clone, Copy)]
+#[derive(Drop)]
 pub struct EndState {
     pub station: Station,
-    pub registers: [u32; 30],
+    pub registers: [u32; PLACES],
 }
 
-#[derive(Clone, Copy)]
+#[derive(Drop)]
 pub struct Outcome {
-    // 0, or 9 where the boards do not fit.
-    pub number: u32,
+    pub result: Result<(), Unfit>,
     pub gate: EndState,
     pub antenna: EndState,
 }
 
-// The words that a board sends, packed at the start: of its one buffer in place, else of its write buffer.
-fn prepare_u8(board: Board, total: usize, read: &[u8], write: &[u8], send: &mut [u32])
-    ensures { send.new
-        ≡ laid
-        (pack_words board.driver.order 8 total (started (start_of board read.now write.now)))
-        send.old }
-{
-    let driver = board.driver;
-    let order = driver.bit_order();
-    if board.inplace {
-        pack_words_u8(order, read, total, send);
-        return;
+impl Outcome {
+    // Document 01's number: 0, or 9 where the boards do not fit.
+    pub fn number(&self) -> u32
+        ensures { result ≡ number_of self.now.result }
+    {
+        match self.result {
+            Ok(()) => 0,
+            Err(Unfit) => 9,
+        }
     }
-    pack_words_u8(order, write, total, send);
 }
 
-// The words that a board sends, packed at the start: of its one buffer in place, else of its write buffer.
-fn prepare_u16(board: Board, total: usize, read: &[u16], write: &[u16], send: &mut [u32])
-    ensures { send.new
-        ≡ laid
-        (pack_words board.driver.order 16 total (started (start_of board read.now write.now)))
-        send.old }
+// A board with what it starts with: its one buffer in place, else its write buffer.
+fn enter<T: Word>(board: Board, read: &[T], write: &[T]) -> Entrant
+    ensures board { result.board ≡ board }
+    ensures prepared { Prepared (width_bits T.width) result (T.numbers read.now) (T.numbers write.now) }
+    ensures read { (i : ℕ) → get_or (T.numbers read.now) i 0 < 2 ^ width_bits T.width }
+    ensures write { (i : ℕ) → get_or (T.numbers write.now) i 0 < 2 ^ width_bits T.width }
 {
-    let driver = board.driver;
-    let order = driver.bit_order();
-    if board.inplace {
-        pack_words_u16(order, read, total, send);
-        return;
-    }
-    pack_words_u16(order, write, total, send);
+    T::bounded(read);
+    T::bounded(write);
+    let total = total_of(board.inplace, read.len(), write.len());
+    let mut send = [0; Transaction::MAX_WORDS];
+    let started = if board.inplace { read } else { write };
+    pack_words(board.driver.bit_order(), started, total, &mut send);
+    Entrant { board, total, send }
 }
 
-// The words that a board sends, packed at the start: of its one buffer in place, else of its write buffer.
-fn prepare_u32(board: Board, total: usize, read: &[u32], write: &[u32], send: &mut [u32])
-    ensures { send.new
+// The elements received, from the front of the read buffer.
+fn unpack<T: Word>(entrant: &Entrant, peer: &Peer, read: &mut [T])
+    ensures { T.numbers read.new
         ≡ laid
-        (pack_words board.driver.order 32 total (started (start_of board read.now write.now)))
-        send.old }
+        (unpack_words entrant.now.board.driver.order (width_bits T.width) entrant.now.total (end_of peer.now).received)
+        (T.numbers read.old) }
 {
-    let driver = board.driver;
-    let order = driver.bit_order();
-    if board.inplace {
-        pack_words_u32(order, read, total, send);
-        return;
-    }
-    pack_words_u32(order, write, total, send);
+    unpack_words(
+        entrant.board.driver.bit_order(),
+        &peer.words[..peer.received],
+        entrant.total,
+        read,
+    );
 }
 
-// A list of events from fresh.
-pub fn trial_u8(
+// What can be seen of an end.
+fn shown(peer: Peer) -> EndState
+    ensures { state_of result ≡ seen (end_of peer) }
+{
+    let Peer {
+        station,
+        registers,
+        ..
+    } = peer;
+    EndState { station, registers }
+}
+
+// A list of events from fresh. (Parameters one by one: `Tried` names each.)
+pub fn trial<T: Word>(
     gate: Board,
     antenna: Board,
-    gate_read: &mut [u8],
-    gate_write: &[u8],
-    antenna_read: &mut [u8],
-    antenna_write: &[u8],
+    gate_read: &mut [T],
+    gate_write: &[T],
+    antenna_read: &mut [T],
+    antenna_write: &[T],
     events: &[u8],
 ) -> Outcome
-    ensures { Tried 8 gate antenna gate_read.old gate_write.now
-        antenna_read.old antenna_write.now events.now result
-        gate_read.new antenna_read.new }
+    ensures { Tried (width_bits T.width) gate antenna (T.numbers gate_read.old) (T.numbers gate_write.now)
+        (T.numbers antenna_read.old) (T.numbers antenna_write.now) events.now result
+        (T.numbers gate_read.new) (T.numbers antenna_read.new) }
 {
-    let gate_total = total_of(gate.inplace, gate_read.len(), gate_write.len());
-    let antenna_total = total_of(antenna.inplace, antenna_read.len(), antenna_write.len());
-    let mut gate_send = [0u32; Transaction::MAX_WORDS];
-    let mut antenna_send = [0u32; Transaction::MAX_WORDS];
-    prepare_u8(gate, gate_total, &gate_read[..], gate_write, &mut gate_send);
-    prepare_u8(
-        antenna,
-        antenna_total,
-        &antenna_read[..],
-        antenna_write,
-        &mut antenna_send,
-    );
-    let mut gate_words = [0u32; Transaction::MAX_WORDS];
-    let mut antenna_words = [0u32; Transaction::MAX_WORDS];
-    let ours = Entrant {
-        board: gate,
-        total: gate_total,
+    let ours = enter(gate, gate_read, gate_write);
+    let theirs = enter(antenna, antenna_read, antenna_write);
+    let mut peers = Peers {
+        gate: ours.fresh(),
+        antenna: theirs.fresh(),
     };
-    let theirs = Entrant {
-        board: antenna,
-        total: antenna_total,
-    };
-    let outcome = run_pair(
-        Width::U8,
-        ours,
-        theirs,
-        &gate_send,
-        &antenna_send,
-        &mut gate_words,
-        &mut antenna_words,
-        events,
-    );
-    let gate_received = outcome.gate.station.received;
-    let antenna_received = outcome.antenna.station.received;
-    let gate_driver = gate.driver;
-    let antenna_driver = antenna.driver;
-    unpack_words_u8(
-        gate_driver.bit_order(),
-        &gate_words[..gate_received],
-        gate_total,
-        gate_read,
-    );
-    unpack_words_u8(
-        antenna_driver.bit_order(),
-        &antenna_words[..antenna_received],
-        antenna_total,
-        antenna_read,
-    );
-    outcome
-}
-
-pub fn trial_u16(
-    gate: Board,
-    antenna: Board,
-    gate_read: &mut [u16],
-    gate_write: &[u16],
-    antenna_read: &mut [u16],
-    antenna_write: &[u16],
-    events: &[u8],
-) -> Outcome
-    ensures { Tried 16 gate antenna gate_read.old gate_write.now
-        antenna_read.old antenna_write.now events.now result
-        gate_read.new antenna_read.new }
-{
-    let gate_total = total_of(gate.inplace, gate_read.len(), gate_write.len());
-    let antenna_total = total_of(antenna.inplace, antenna_read.len(), antenna_write.len());
-    let mut gate_send = [0u32; Transaction::MAX_WORDS];
-    let mut antenna_send = [0u32; Transaction::MAX_WORDS];
-    prepare_u16(gate, gate_total, &gate_read[..], gate_write, &mut gate_send);
-    prepare_u16(
-        antenna,
-        antenna_total,
-        &antenna_read[..],
-        antenna_write,
-        &mut antenna_send,
-    );
-    let mut gate_words = [0u32; Transaction::MAX_WORDS];
-    let mut antenna_words = [0u32; Transaction::MAX_WORDS];
-    let ours = Entrant {
-        board: gate,
-        total: gate_total,
-    };
-    let theirs = Entrant {
-        board: antenna,
-        total: antenna_total,
-    };
-    let outcome = run_pair(
-        Width::U16,
-        ours,
-        theirs,
-        &gate_send,
-        &antenna_send,
-        &mut gate_words,
-        &mut antenna_words,
-        events,
-    );
-    let gate_received = outcome.gate.station.received;
-    let antenna_received = outcome.antenna.station.received;
-    let gate_driver = gate.driver;
-    let antenna_driver = antenna.driver;
-    unpack_words_u16(
-        gate_driver.bit_order(),
-        &gate_words[..gate_received],
-        gate_total,
-        gate_read,
-    );
-    unpack_words_u16(
-        antenna_driver.bit_order(),
-        &antenna_words[..antenna_received],
-        antenna_total,
-        antenna_read,
-    );
-    outcome
-}
-
-pub fn trial_u32(
-    gate: Board,
-    antenna: Board,
-    gate_read: &mut [u32],
-    gate_write: &[u32],
-    antenna_read: &mut [u32],
-    antenna_write: &[u32],
-    events: &[u8],
-) -> Outcome
-    ensures { Tried 32 gate antenna gate_read.old gate_write.now
-        antenna_read.old antenna_write.now events.now result
-        gate_read.new antenna_read.new }
-{
-    let gate_total = total_of(gate.inplace, gate_read.len(), gate_write.len());
-    let antenna_total = total_of(antenna.inplace, antenna_read.len(), antenna_write.len());
-    let mut gate_send = [0u32; Transaction::MAX_WORDS];
-    let mut antenna_send = [0u32; Transaction::MAX_WORDS];
-    prepare_u32(gate, gate_total, &gate_read[..], gate_write, &mut gate_send);
-    prepare_u32(
-        antenna,
-        antenna_total,
-        &antenna_read[..],
-        antenna_write,
-        &mut antenna_send,
-    );
-    let mut gate_words = [0u32; Transaction::MAX_WORDS];
-    let mut antenna_words = [0u32; Transaction::MAX_WORDS];
-    let ours = Entrant {
-        board: gate,
-        total: gate_total,
-    };
-    let theirs = Entrant {
-        board: antenna,
-        total: antenna_total,
-    };
-    let outcome = run_pair(
-        Width::U32,
-        ours,
-        theirs,
-        &gate_send,
-        &antenna_send,
-        &mut gate_words,
-        &mut antenna_words,
-        events,
-    );
-    let gate_received = outcome.gate.station.received;
-    let antenna_received = outcome.antenna.station.received;
-    let gate_driver = gate.driver;
-    let antenna_driver = antenna.driver;
-    unpack_words_u32(
-        gate_driver.bit_order(),
-        &gate_words[..gate_received],
-        gate_total,
-        gate_read,
-    );
-    unpack_words_u32(
-        antenna_driver.bit_order(),
-        &antenna_words[..antenna_received],
-        antenna_total,
-        antenna_read,
-    );
-    outcome
+    let result = peers.play(T::width(), &ours, &theirs, events);
+    unpack(&ours, &peers.gate, gate_read);
+    unpack(&theirs, &peers.antenna, antenna_read);
+    let Peers { gate, antenna } = peers;
+    Outcome {
+        result,
+        gate: shown(gate),
+        antenna: shown(antenna),
+    }
 }

@@ -8,7 +8,8 @@ use std::io;
 use std::io::Read;
 
 // Reads until the buffer is full or the input ends; how many bytes it put at the buffer's start. An error of a read leaves the buffer as
-// long as it was, with whatever came before.
+// long as it was, with whatever came before. A loop of its own: the library's `read_exact` refuses a shorter input, and `read_to_end` needs
+// a heap. Each program has it, since no library below them does any input.
 fn read_full(input: &mut impl Read, to: &mut [u8]) -> io::Result<usize>
     ensures read { IfOk result (λ n. n ≤ length to.new) }
     ensures kept { length to.new ≡ length to.old }
@@ -25,7 +26,7 @@ fn read_full(input: &mut impl Read, to: &mut [u8]) -> io::Result<usize>
 }
 
 fn main(rt: HostRuntime) -> io::Result<()> {
-    // One byte more than the longest input.
+    // Fixed memory: one byte more than the longest input.
     let mut input = [0u8; INPUT + 1];
     let read = read_full(&mut rt.stdin(), &mut input)?;
     let mut out = [0u8; OUTPUT];

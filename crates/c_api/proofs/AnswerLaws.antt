@@ -4,15 +4,15 @@ use mathlib.Core.Path.{◌≡◌, ap}
 use native.Mathlib.Omega.{arith}
 use Rattle.sequences.specs.declared.access.Access.{Access}
 use Rattle.sequences.specs.declared.access.Access.TheVariants.{Read, Write, Send, Receive, Done}
-use Rattle.sequences.specs.declared.access.Ending.{Ending}
-use Rattle.sequences.specs.declared.access.Ending.TheVariants.{Ok}
+use Rattle.sequences.specs.Access.{Ending}
+use Rattle.std.specs.Prelude.{Ok}
 use Rattle.sequences.proofs.EndingLaws.{zero_is_ok}
 use Rattle.machine.specs.Flush.{flush_access}
 use Rattle.machine.specs.Transfer.{due_access}
 use Rattle.agreement.specs.Agreement.{Seen, OkTwice}
 use Rattle.c_api.specs.HostBus.{answer_number}
 
-zero_is_done : (a : Access) → answer_number a ≡ 0 → a ≡ Done Ok
+zero_is_done : (a : Access) → answer_number a ≡ 0 → a ≡ Done (Ok tt)
 zero_is_done (Read r) h = absurd (omega arith)
 zero_is_done (Write r v) h = absurd (omega arith)
 zero_is_done (Send i) h = absurd (omega arith)

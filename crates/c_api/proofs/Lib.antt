@@ -1,5 +1,4 @@
 pub mod NumberLaws
-mod HostLaws
 mod PairLaws
 pub mod AnswerLaws
 pub mod HostAgreement

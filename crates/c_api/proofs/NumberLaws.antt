@@ -18,7 +18,7 @@ use Rattle.words.specs.declared.mode.Pcs.TheVariants.{Pcs0, Pcs1, Pcs2, Pcs3}
 use Rattle.words.specs.Clock.{clock_word}
 use Rattle.words.specs.Command.{lsbf_of, cpol_of, cpha_of, pcs_of}
 use Rattle.words.proofs.ClockLaws.{clock_reads}
-use Rattle.sequences.specs.declared.access.Ending.{Ending}
+use Rattle.sequences.specs.Access.{Ending}
 use Rattle.sequences.specs.declared.driver.Lpspi.{Lpspi}
 use Rattle.sequences.specs.Access.{number_of}
 use Rattle.runs.specs.Run.{Left, left}

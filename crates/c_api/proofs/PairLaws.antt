@@ -1,30 +1,25 @@
 -- The states of both ends, word by word, and what a trial leaves for a host.
 -- Assumes nothing.
-use Prim.Native.Nat.{ℕ, zero, suc, ◌+◌, ◌-◌, ◌/◌, ◌<◌, ◌≤◌}
+use Prim.Native.Nat.{ℕ, zero, suc, ◌+◌, ◌-◌, ◌/◌, ◌<◌, ◌≤◌, min}
 use mathlib.Core.List.{List, [], ◌∷◌, ◌++◌}
-use mathlib.Core.Path.{◌≡◌, refl, sym, ap, ap₂, ◌∙◌}
+use mathlib.Core.Path.{◌≡◌, refl, sym, ap, ap₂, subst, ◌∙◌}
 use native.Mathlib.Omega.{arith}
-use lib.ListN.{length, get_or, length-append, get_or-append}
+use Rattle.std.specs.Fn.{Called, Mut}
+use Rattle.std.specs.Array.{IsFromFnResult, IsFromFnResultFrom}
+use lib.ListN.{length, get_or, take, drop, length-append, get_or-append}
 use lib.Seq.{get_or-append-add}
 use Rattle.words.specs.declared.width.Width.{Width}
-use Rattle.words.specs.Buffer.{filled, tabulate}
+use Rattle.words.specs.Buffer.{filled}
 use Rattle.words.specs.Width.{width_bits}
 use Rattle.words.specs.Word.{laid}
-use Rattle.words.proofs.BufferLaws.{length_filled, store_stop}
+use Rattle.words.proofs.BufferLaws.{length_filled, laid_nothing}
 use Rattle.agreement.specs.declared.board.Board.{Board}
 use Rattle.agreement.specs.Agreement.{Seen}
 use Rattle.bus.specs.declared.trial.Outcome.{Outcome}
-use Rattle.bus.specs.Trial.{TrialLeft, trial_of, Tried}
+use Rattle.bus.specs.Trial.{TrialLeft, trial_of, Tried, number_of}
 use Rattle.agreement.specs.End.{words_in}
 use Rattle.bus.specs.View.{queued, state_of}
-use Rattle.c_api.specs.HostBus.{head_words, commands_in, state_words, pair_words, state_left, board_of, host_trial, of_trial, trial_by}
-
-filled_at : (d n i : ℕ) (xs : List ℕ) → i < n → get_or (filled d n xs) i d ≡ get_or xs i d
-filled_at d zero i xs h = absurd (omega arith)
-filled_at d (suc n) zero [] h = refl
-filled_at d (suc n) zero (x ∷ xs) h = refl
-filled_at d (suc n) (suc i) [] h = filled_at d n i [] (omega arith)
-filled_at d (suc n) (suc i) (x ∷ xs) h = filled_at d n i xs (omega arith)
+use Rattle.c_api.specs.HostBus.{head_words, commands_in, state_words, pair_words, laid_from, state_left, board_of, host_trial, of_trial, trial_by}
 
 -- LISTS AFTER LISTS
 
@@ -56,38 +51,6 @@ module _ (x : Seen) where
       (length-append sends (receives ++ rest)
       ∙ ap₂ ◌+◌ (length_filled 0 16 (words_in x.wire.transmit))
       (length-append receives rest ∙ ap₂ ◌+◌ (length_filled 0 16 x.wire.receive) (length_filled 0 30 x.registers)))
-
-  pub word_head : (i : ℕ) → i < 6 → get_or (head_words x.transfer x.flush x.wire) i 0 ≡ get_or (state_words x) i 0
-  word_head i h = sym (front head (sends ++ (receives ++ rest)) 6 i refl h)
-
-  pub word_transmit : (i : ℕ) → 6 ≤ i → i < 22 → get_or (words_in x.wire.transmit) (i - 6) 0 ≡ get_or (state_words x) i 0
-  word_transmit i l h =
-      sym
-      (behind head (sends ++ (receives ++ rest)) 6 i refl l
-      ∙ front sends (receives ++ rest) 16 (i - 6) (length_filled 0 16 (words_in x.wire.transmit)) (omega arith)
-      ∙ filled_at 0 16 (i - 6) (words_in x.wire.transmit) (omega arith))
-
-  pub word_receive : (i : ℕ) → 22 ≤ i → i < 38 → get_or x.wire.receive (i - 22) 0 ≡ get_or (state_words x) i 0
-  word_receive i l h =
-      let q : i - 6 - 16 ≡ i - 22 = omega arith in
-      sym
-      (behind head (sends ++ (receives ++ rest)) 6 i refl (omega arith)
-      ∙ behind sends (receives ++ rest) 16 (i - 6) (length_filled 0 16 (words_in x.wire.transmit)) (omega arith)
-      ∙ ap (λ (k : ℕ). get_or (receives ++ rest) k 0) q
-      ∙ front receives rest 16 (i - 22) (length_filled 0 16 x.wire.receive) (omega arith)
-      ∙ filled_at 0 16 (i - 22) x.wire.receive (omega arith))
-
-  pub word_register : (i : ℕ) → 38 ≤ i → i < 68 → get_or x.registers (i - 38) 0 ≡ get_or (state_words x) i 0
-  word_register i l h =
-      let q : i - 6 - 16 ≡ i - 22 = omega arith in
-      let p : i - 22 - 16 ≡ i - 38 = omega arith in
-      sym
-      (behind head (sends ++ (receives ++ rest)) 6 i refl (omega arith)
-      ∙ behind sends (receives ++ rest) 16 (i - 6) (length_filled 0 16 (words_in x.wire.transmit)) (omega arith)
-      ∙ ap (λ (k : ℕ). get_or (receives ++ rest) k 0) q
-      ∙ behind receives rest 16 (i - 22) (length_filled 0 16 x.wire.receive) (omega arith)
-      ∙ ap (λ (k : ℕ). get_or rest k 0) p
-      ∙ filled_at 0 30 (i - 38) x.registers (omega arith))
 
 -- what a port queues
 pub commands_queued : (n : ℕ) (words : List ℕ) → commands_in (queued n words) ≡ n
@@ -128,17 +91,89 @@ module _ (g a : Seen) where
       length-append (state_words g) (state_words a ++ last)
       ∙ ap₂ ◌+◌ (length_state g) (length-append (state_words a) last ∙ ap (λ (n : ℕ). n + 2) (length_state a))
 
-tabulate_all : (n : ℕ) (xs : List ℕ) → length xs ≡ n → tabulate n (λ i. get_or xs i 0) ≡ xs
-tabulate_all zero [] e = refl
-tabulate_all zero (x ∷ xs) e = absurd (omega arith)
-tabulate_all (suc n) [] e = absurd (omega arith)
-tabulate_all (suc n) (x ∷ xs) e = ap (λ (l : List ℕ). x ∷ l) (tabulate_all n xs (omega arith))
+-- places that have the words of a list, 0 past them
+pub filled_by : (n : ℕ) (ys xs : List ℕ) → length ys ≡ n → ((i : ℕ) → i < n → get_or ys i 0 ≡ get_or xs i 0) → ys ≡ filled 0 n xs
+filled_by zero [] xs e h = refl
+filled_by zero (y ∷ ys) xs e h = absurd (omega arith)
+filled_by (suc n) [] xs e h = absurd (omega arith)
+filled_by (suc n) (y ∷ ys) [] e h =
+    ap₂ (λ (v : ℕ) (l : List ℕ). v ∷ l) (h 0 (omega arith)) (filled_by n ys [] (omega arith) (λ i l. h (suc i) (omega arith)))
+filled_by (suc n) (y ∷ ys) (x ∷ xs) e h =
+    ap₂ (λ (v : ℕ) (l : List ℕ). v ∷ l) (h 0 (omega arith)) (filled_by n ys xs (omega arith) (λ i l. h (suc i) (omega arith)))
 
--- the loop's end
-pub shown : (n m : ℕ) (xs bs ws : List ℕ) → length xs ≡ m → n ≤ m → (n < m → length bs ≤ n)
-    → ws ≡ laid (tabulate n (λ i. get_or xs i 0)) bs → ws ≡ laid xs bs
-shown n m xs bs ws e h s ew =
-    store_stop n m (λ i. get_or xs i 0) (λ i. get_or xs i 0) bs ws h s (λ i l. refl) ew ∙ ap (λ (l : List ℕ). laid l bs) (tabulate_all m xs e)
+-- an array made by a function, of which each call gives the word of its number
+module _ {F : Type 0} (g : Mut F (ℕ × Unit {0}) ℕ) (Same : F → Type 0) (xs : List ℕ)
+    (turn : (p q : F) (i r : ℕ) → Same p → Called g p (i, tt) r q → (r ≡ get_or xs i 0) × Same q) where
+  made_from : (n i : ℕ) (p : F) (ys : List ℕ) → Same p → IsFromFnResultFrom g p ys i n → (k j : ℕ) → j ≡ i + k → k < n
+      → get_or ys j 0 ≡ get_or xs j 0
+  made_from zero i p ys s m k j e h = absurd (omega arith)
+  made_from (suc n) i p ys s (q, y, at, called, later) zero j e h =
+      let same : i ≡ j = omega arith in
+      subst (λ (x : ℕ). get_or ys x 0 ≡ get_or xs x 0) same (at.1 0 ∙ (turn p q i y s called).0)
+  made_from (suc n) i p ys s (q, y, at, called, later) (suc k) j e h =
+      made_from n (i + 1) q ys (turn p q i y s called).1 later k j (omega arith) (omega arith)
+
+  pub made_of : (n : ℕ) (f : F) (ys : List ℕ) → Same f → IsFromFnResult g f ys n → ys ≡ filled 0 n xs
+  made_of n f ys s m = filled_by n ys xs m.long (λ k h. made_from n 0 f ys s m.each k k (omega arith) h)
+
+-- WORDS OVER A BUFFER FROM A PLACE ON
+
+-- at its front, as a copy leaves it
+front_laid : (n : ℕ) (xs bs : List ℕ) → n ≡ min (length xs) (length bs) → take n xs ++ drop n bs ≡ laid xs bs
+front_laid zero [] bs e = refl
+front_laid zero (x ∷ xs) [] e = refl
+front_laid zero (x ∷ xs) (b ∷ bs) e = absurd (omega arith)
+front_laid (suc n) [] bs e = absurd (omega arith)
+front_laid (suc n) (x ∷ xs) [] e = absurd (omega arith)
+front_laid (suc n) (x ∷ xs) (b ∷ bs) e = ap (λ (l : List ℕ). x ∷ l) (front_laid n xs bs (omega arith))
+
+pub copied : (from n k : ℕ) (xs bs : List ℕ) → k ≡ n → n ≡ min (length xs) (length bs - from) → from ≤ length bs
+    → take from bs ++ (take n xs ++ drop k (drop from bs)) ≡ laid_from from xs bs
+copied zero n k xs bs ek e h = rw ek (front_laid n xs bs (omega (arith, e)))
+copied (suc from) n k xs [] ek e h = absurd (omega arith)
+copied (suc from) n k xs (b ∷ bs) ek e h =
+    ap (λ (l : List ℕ). b ∷ l) (copied from n k xs bs ek (omega (arith, e)) (omega arith))
+
+-- past its end
+pub past : (from : ℕ) (xs bs : List ℕ) → length bs ≤ from → bs ≡ laid_from from xs bs
+past zero xs [] h = sym (laid_nothing xs)
+past zero xs (b ∷ bs) h = absurd (omega arith)
+past (suc from) xs [] h = refl
+past (suc from) xs (b ∷ bs) h = ap (λ (l : List ℕ). b ∷ l) (past from xs bs (omega arith))
+
+-- behind words that were laid
+behind_laid : (at : ℕ) (xs ys bs : List ℕ) → at ≡ length xs → laid_from at ys (laid xs bs) ≡ laid (xs ++ ys) bs
+behind_laid zero [] ys bs e = refl
+behind_laid zero (x ∷ xs) ys bs e = absurd (omega arith)
+behind_laid (suc at) [] ys bs e = absurd (omega arith)
+behind_laid (suc at) (x ∷ xs) ys [] e = refl
+behind_laid (suc at) (x ∷ xs) ys (b ∷ bs) e = ap (λ (l : List ℕ). x ∷ l) (behind_laid at xs ys bs (omega arith))
+
+pub laid_behind : (from at : ℕ) (xs ys bs : List ℕ) → at ≡ from + length xs
+    → laid_from at ys (laid_from from xs bs) ≡ laid_from from (xs ++ ys) bs
+laid_behind zero at xs ys bs e = behind_laid at xs ys bs (omega arith)
+laid_behind (suc from) zero xs ys bs e = absurd (omega arith)
+laid_behind (suc from) (suc at) xs ys [] e = refl
+laid_behind (suc from) (suc at) xs ys (b ∷ bs) e = ap (λ (l : List ℕ). b ∷ l) (laid_behind from at xs ys bs (omega arith))
+
+-- an end's four parts
+pub laid_end : (from : ℕ) (x : Seen) {ts : List ℕ} (bs : List ℕ) → ts ≡ words_in x.wire.transmit
+    → laid_from (from + 38) (rest x) (laid_from (from + 22) (receives x) (laid_from (from + 6) (filled 0 16 ts) (laid_from from (head x) bs)))
+    ≡ laid_from from (state_words x) bs
+laid_end from x bs t =
+    let sent = length_filled 0 16 (words_in x.wire.transmit) in
+    let received = length_filled 0 16 x.wire.receive in
+    rw t
+    (laid_behind (from + 22) (from + 38) (receives x) (rest x) _ (omega (arith, received))
+    ∙ laid_behind (from + 6) (from + 22) (sends x) (receives x ++ rest x) _ (omega (arith, sent))
+    ∙ laid_behind from (from + 6) (head x) (sends x ++ (receives x ++ rest x)) bs refl)
+
+-- both ends, and the commands
+pub laid_both : (g a : Seen) (bs : List ℕ)
+    → laid_from 136 (last g a) (laid_from 68 (state_words a) (laid_from 0 (state_words g) bs)) ≡ laid (pair_words g a) bs
+laid_both g a bs =
+    laid_behind 68 136 (state_words a) (last g a) _ (omega (arith, length_state a))
+    ∙ laid_behind 0 68 (state_words g) (state_words a ++ last g a) bs (omega (arith, length_state g))
 
 -- WHAT GOES BACK, of boards made of numbers
 pub host_trial_lem : (w : Width) (o : Outcome) (gate_left antenna_left : List ℕ) (g a : Board)
@@ -146,18 +181,11 @@ pub host_trial_lem : (w : Width) (o : Outcome) (gate_left antenna_left : List �
     (gate_read gate_write antenna_read antenna_write events state st : List ℕ) (n : ℕ)
     → g ≡ board_of w gate_driver inplace gate_exponent → a ≡ board_of w antenna_driver (inplace / 2) antenna_exponent
     → Tried (width_bits w) g a gate_read gate_write antenna_read antenna_write events o gate_left antenna_left
-    → (n ≡ o.number) × (st ≡ state_left o.number (state_of o.gate) (state_of o.antenna) state)
+    → n ≡ number_of o.result → st ≡ state_left (number_of o.result) (state_of o.gate) (state_of o.antenna) state
     → host_trial n gate_left antenna_left st
     ≡ trial_by w gate_driver antenna_driver inplace gate_exponent antenna_exponent gate_read gate_write antenna_read antenna_write events state
 host_trial_lem w o gate_left antenna_left g a gate_driver antenna_driver inplace gate_exponent antenna_exponent
-    gate_read gate_write antenna_read antenna_write events state st n p q t s =
-    ap₂ (λ (m : ℕ) (l : List ℕ). host_trial m gate_left antenna_left l) s.0 s.1
+    gate_read gate_write antenna_read antenna_write events state st n p q t en es =
+    ap₂ (λ (m : ℕ) (l : List ℕ). host_trial m gate_left antenna_left l) en es
     ∙ ap (λ (y : TrialLeft). of_trial y state)
     (t.same ∙ ap₂ (λ (y z : Board). trial_of (width_bits w) y z gate_read gate_write antenna_read antenna_write events) p q)
-
--- SIX WORDS
-pub six : {a a' b b' c c' d d' e e' f f' : ℕ} → a ≡ a' → b ≡ b' → c ≡ c' → d ≡ d' → e ≡ e' → f ≡ f'
-    → ◌≡◌ {A = List ℕ} (a ∷ b ∷ c ∷ d ∷ e ∷ f ∷ []) (a' ∷ b' ∷ c' ∷ d' ∷ e' ∷ f' ∷ [])
-six p q r s t u =
-    let cons : ℕ → List ℕ → List ℕ = λ x l. x ∷ l in
-    ap₂ cons p (ap₂ cons q (ap₂ cons r (ap₂ cons s (ap₂ cons t (ap (λ (x : ℕ). x ∷ []) u)))))

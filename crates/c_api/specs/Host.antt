@@ -12,7 +12,7 @@ use Rattle.words.specs.declared.mode.Pcs.{Pcs}
 use Rattle.words.specs.declared.mode.Pcs.TheVariants.{Pcs0, Pcs1, Pcs2, Pcs3}
 use Rattle.words.specs.Answer.{Answer}
 use Rattle.words.specs.Clock.{clocked, clock_word}
-use Rattle.words.specs.Command.{Settings}
+use Rattle.words.specs.declared.transaction.Settings.{Settings}
 
 abbrev pub order_from : Bool → BitOrder
 order_from lsb = cond lsb Lsb Msb

@@ -1,7 +1,7 @@
 -- The two-board bus for a host: both boards at one width, and what a trial leaves: its number, both read buffers, and both ends' states
 -- as words.
 -- Assumes nothing.
-use Rattle.std.specs.Prelude.{ℕ, suc, ◌/◌, ◌%◌, cond, List, [], ◌∷◌, ◌++◌, eqb, length}
+use Rattle.std.specs.Prelude.{ℕ, zero, suc, ◌/◌, ◌%◌, cond, List, [], ◌∷◌, ◌++◌, eqb, length}
 use Rattle.words.specs.declared.width.Width.{Width}
 use Rattle.words.specs.Buffer.{filled}
 use Rattle.words.specs.Command.{flag_of}
@@ -52,6 +52,12 @@ commands_in (Word v ∷ queue) = commands_in queue
 abbrev pub pair_words : Seen → Seen → List ℕ
 pair_words gate antenna =
     state_words gate ++ (state_words antenna ++ (commands_in gate.wire.transmit ∷ commands_in antenna.wire.transmit ∷ []))
+
+-- words over a buffer from a place on (private contracts cite it)
+abbrev pub laid_from : ℕ → List ℕ → List ℕ → List ℕ
+laid_from zero xs bs = laid xs bs
+laid_from (suc n) xs [] = []
+laid_from (suc n) xs (b ∷ bs) = b ∷ laid_from n xs bs
 
 -- THE TRIAL
 

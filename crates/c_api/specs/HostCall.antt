@@ -1,6 +1,6 @@
 -- The other calls for a host, by number, with parameters as numbers.
 -- Assumes nothing.
-use Rattle.std.specs.Prelude.{ℕ, ◌+◌, ◌*◌, ◌%◌, ◌-◌, Bool, false, cond, List, [], ◌∷◌, eqb}
+use Rattle.std.specs.Prelude.{ℕ, ◌+◌, ◌*◌, ◌%◌, ◌-◌, Bool, false, cond, List, [], Option, Some, None, eqb, Err}
 use Rattle.manual.specs.declared.Ccr.TheVariants.{SCKDIV, DBT, PCSSCK, SCKPCS}
 use Rattle.manual.specs.declared.Field.TheVariants.{Ccr, Tcr}
 use Rattle.manual.specs.declared.Tcr.TheVariants.{FRAMESZ}
@@ -11,7 +11,7 @@ use Rattle.words.specs.declared.transaction.Direction.TheVariants.{Tx, Rx}
 use Rattle.words.specs.declared.transaction.LpspiError.TheVariants.{FrameSize}
 use Rattle.words.specs.declared.transaction.Transaction.{Transaction}
 use Rattle.words.specs.Command.{flag_of, frame_accepted}
-use Rattle.sequences.specs.declared.access.Ending.TheVariants.{Err}
+use Rattle.sequences.specs.declared.access.RunError.TheVariants.{Driver}
 use Rattle.sequences.specs.Driver.{driver_command}
 use Rattle.sequences.specs.declared.call.Call.TheVariants.{SoftReset, RecoverFromError, Init, GetStatus, ClearStatus}
 use Rattle.sequences.specs.declared.call.Call.TheVariants.{IsEnabled, SetEnable, GetWatermark, SetWatermark, ClearFifo}
@@ -74,7 +74,7 @@ module _ (d : Lpspi) (budget : ℕ) (script log : List ℕ) where
       (cond (frame_accepted a)
       (ran_call
       (call_run d (EnqueueTransaction (transaction_of (driver_command d (set_field (Tcr FRAMESZ) (a - 1) 0)))) budget script log))
-      (left (unmoved d (Err FrameSize)) log))
+      (left (unmoved d (Err (Driver FrameSize))) log))
 
   -- the resets, modulo 3
   abbrev pub reset_by : ℕ → Left
@@ -106,9 +106,9 @@ abbrev pub fifo_number : FifoStatus → ℕ
 fifo_number f = ((f.txcap * 0x10000 + f.rxcap) * 0x10000 + f.txcount) * 0x10000 + f.rxcount
 
 -- a word, and 2^32 to say that there is one
-abbrev pub words_number : List ℕ → ℕ
-words_number [] = 0
-words_number (w ∷ l) = 0x100000000 + w
+abbrev pub word_number : Option ℕ → ℕ
+word_number None = 0
+word_number (Some w) = 0x100000000 + w
 
 abbrev pub numbered : {A : Type 0} → (A → ℕ) → Answered A → Answered ℕ
 numbered f x = record { run = x.run; value = f x.value }
@@ -124,7 +124,7 @@ module _ (d : Lpspi) (budget : ℕ) (script log : List ℕ) where
       (cond (eqb (kind % 6) 2) (numbered (λ x. x.bits) (valued status_in no_status (call_run d GetStatus budget script log)))
       (cond (eqb (kind % 6) 3) (numbered flag_of (valued enabled_in false (call_run d IsEnabled budget script log)))
       (cond (eqb (kind % 6) 4) (numbered fifo_number (valued fifo_in no_fifo (call_run d GetFifoStatus budget script log)))
-      (numbered words_number (valued data_in [] (call_run d ReadData budget script log)))))))
+      (numbered word_number (valued data_in None (call_run d ReadData budget script log)))))))
 
 -- what goes back to the host
 pub record HostValue : Type 0 where

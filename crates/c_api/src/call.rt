@@ -1,16 +1,15 @@
 // The other calls over a script, by number: the number of the result, with the next driver value, the accesses made and the answers used
-// where they go.
+// where they go. The C interface: calls and refusals are numbers, and parameters stand one by one.
 ghost use Rattle.std.specs.Prelude.{◌≡◌, []};
 ghost use Rattle.runs.specs.Run.{left};
 ghost use Rattle.calls.specs.Calls.{value_left};
-ghost use Rattle.calls.specs.Values.{words_of};
-ghost use Rattle.words.specs.Command.{flag_of};
 ghost use Rattle.c_api.specs.HostRun.{driver_of, host_left, of_call};
-ghost use Rattle.c_api.specs.HostCall.{odd, direction_from, sample_from, pcs_polarity_from, clock_from, fifo_number, words_number};
+ghost use Rattle.c_api.specs.HostCall.{fifo_number, word_number};
 ghost use Rattle.c_api.specs.HostCall.{enqueue_by, reset_by, set_by, disabled_by, get_by, host_value, of_answered};
 
-use crate::command::{command_of, pcs_of};
-use crate::driver::{driver_of, hand_back};
+use crate::command::command_of;
+use crate::driver::hand_back;
+use crate::number::Number;
 use calls::data::{enqueue_data, enqueue_transaction, read_data};
 use calls::disabled::{
     set_chip_select_polarity, set_clock_configs, set_clock_hz, set_peripheral_enable,
@@ -18,78 +17,23 @@ use calls::disabled::{
 };
 use calls::fifo::{clear_fifo, fifo_status, set_watermark, watermark};
 use calls::reset::{init, recover_from_error, soft_reset};
-use calls::results::{
-    Data, DataResult, EnabledResult, FifoResult, FifoStatus, LevelResult, StatusResult,
-};
+use calls::results::{Answered, FifoStatus};
 use calls::status::{clear_status, is_enabled, set_enable, status};
-use manual::{Ccr, Field};
 use runs::log::limits;
 use runs::result::RunResult;
-use sequences::access::Ending;
+use sequences::access::RunError;
 use sequences::driver::Lpspi;
-use sequences::settings::{PcsPolarity, SamplePoint};
 use sequences::status::Status;
-use words::clock::ClockConfigs;
-use words::transaction::{Direction, LpspiError, TransactionResult};
-
-fn is_odd(a: u32) -> bool
-    ensures { result ≡ odd a }
-{
-    a % 2 == 1
-}
-
-fn direction(a: u32) -> Direction
-    ensures { result ≡ direction_from a }
-{
-    if a % 2 == 1 {
-        Direction::Rx
-    } else {
-        Direction::Tx
-    }
-}
-
-fn sample_point(a: u32) -> SamplePoint
-    ensures { result ≡ sample_from a }
-{
-    if a % 2 == 1 {
-        SamplePoint::DelayedEdge
-    } else {
-        SamplePoint::Edge
-    }
-}
-
-fn polarity(a: u32) -> PcsPolarity
-    ensures { result ≡ pcs_polarity_from a }
-{
-    if a % 2 == 1 {
-        PcsPolarity::ActiveHigh
-    } else {
-        PcsPolarity::ActiveLow
-    }
-}
-
-fn clock(word: u32) -> ClockConfigs
-    ensures { result ≡ clock_from word }
-{
-    ClockConfigs {
-        sckpcs: Field::Ccr(Ccr::SCKPCS).read(word) as u8,
-        pcssck: Field::Ccr(Ccr::PCSSCK).read(word) as u8,
-        dbt: Field::Ccr(Ccr::DBT).read(word) as u8,
-        sckdiv: Field::Ccr(Ccr::SCKDIV).read(word) as u8,
-    }
-}
+use words::transaction::LpspiError;
 
 fn reset(kind: u32, driver: Lpspi, budget: usize, script: &[u32], log: &mut [u32]) -> RunResult
     ensures { left result log.new ≡ reset_by driver budget script.now log.old kind }
 {
-    let n = kind % 3;
-    if n == 0 {
-        return soft_reset(driver, budget, script, log);
+    match kind % 3 {
+        0 => soft_reset(driver, budget, script, log),
+        1 => recover_from_error(driver, budget, script, log),
+        _ => init(driver, budget, script, log),
     }
-    if n == 1 {
-        return recover_from_error(driver, budget, script, log);
-    }
-    init(driver, budget, script, log)
 }
 
 // A command of that frame size with the driver's order, mode and chip select. Number 5 comes before number 1.
@@ -104,79 +48,52 @@ fn enqueue(
         ≡ enqueue_by driver budget script.now log.old frame_size }
 {
     if limits(budget, log) {
-        return RunResult::unmoved(driver, Ending::Limits);
+        return RunResult::unmoved(driver, Err(RunError::Limits));
     }
-    let TransactionResult::Ok(command) = command_of(frame_size) else {
-        return RunResult::unmoved(driver, Ending::Err(LpspiError::FrameSize));
+    let Ok(command) = command_of(frame_size) else {
+        return RunResult::unmoved(driver, Err(RunError::Driver(LpspiError::FrameSize)));
     };
     enqueue_transaction(driver, driver.bus_transaction(command), budget, script, log)
 }
 
 fn set(
     kind: u32,
-    a: u32,
+    a: Number,
     driver: Lpspi,
     budget: usize,
     script: &[u32],
     log: &mut [u32],
 ) -> RunResult
-    ensures { left result log.new ≡ set_by driver budget script.now log.old kind a }
+    ensures { left result log.new ≡ set_by driver budget script.now log.old kind a.0 }
 {
-    let n = kind % 5;
-    if n == 0 {
-        return clear_status(driver, Status::from_bits_truncate(a), budget, script, log);
+    match kind % 5 {
+        0 => clear_status(driver, Status::from_bits_truncate(a.0), budget, script, log),
+        1 => set_enable(driver, a.into(), budget, script, log),
+        2 => clear_fifo(driver, a.into(), budget, script, log),
+        3 => enqueue_data(driver, a.0, budget, script, log),
+        _ => enqueue(a.0, driver, budget, script, log),
     }
-    if n == 1 {
-        return set_enable(driver, is_odd(a), budget, script, log);
-    }
-    if n == 2 {
-        return clear_fifo(driver, direction(a), budget, script, log);
-    }
-    if n == 3 {
-        return enqueue_data(driver, a, budget, script, log);
-    }
-    enqueue(a, driver, budget, script, log)
 }
 
 fn disabled(
     kind: u32,
-    a: u32,
-    b: u32,
+    a: Number,
+    b: Number,
     driver: Lpspi,
     budget: usize,
     script: &[u32],
     log: &mut [u32],
 ) -> RunResult
     ensures { left result log.new
-        ≡ disabled_by driver budget script.now log.old kind a b }
+        ≡ disabled_by driver budget script.now log.old kind a.0 b.0 }
 {
-    let n = kind % 5;
-    if n == 0 {
-        return set_clock_hz(driver, a, b, budget, script, log);
+    match kind % 5 {
+        0 => set_clock_hz(driver, a.0, b.0, budget, script, log),
+        1 => set_clock_configs(driver, a.into(), budget, script, log),
+        2 => set_sample_point(driver, a.into(), budget, script, log),
+        3 => set_peripheral_enable(driver, a.into(), budget, script, log),
+        _ => set_chip_select_polarity(driver, a.into(), b.into(), budget, script, log),
     }
-    if n == 1 {
-        return set_clock_configs(driver, clock(a), budget, script, log);
-    }
-    if n == 2 {
-        return set_sample_point(driver, sample_point(a), budget, script, log);
-    }
-    if n == 3 {
-        return set_peripheral_enable(driver, is_odd(a), budget, script, log);
-    }
-    set_chip_select_polarity(driver, pcs_of(a), polarity(b), budget, script, log)
-}
-
-// A result, and the call's value as a number.
-#[derive(Clone, Copy)]
-pub(crate) struct Got {
-    pub result: RunResult,
-    pub value: u64,
-}
-
-fn flag(on: bool) -> u64
-    ensures { result ≡ flag_of on }
-{
-    if on { 1 } else { 0 }
 }
 
 fn fifo_number(f: FifoStatus) -> u64
@@ -186,98 +103,54 @@ fn fifo_number(f: FifoStatus) -> u64
         + f.rxcount as u64
 }
 
-fn data_number(found: Data) -> u64
-    ensures { result ≡ words_number (words_of found) }
+fn word_number(word: Option<u32>) -> u64
+    ensures { result ≡ word_number word }
 {
-    match found {
-        Data::Word(w) => 0x1_0000_0000 + w as u64,
-        Data::Empty => 0,
+    match word {
+        Some(w) => 0x1_0000_0000 + w as u64,
+        None => 0,
     }
 }
 
-fn of_level(r: LevelResult) -> Got
-    ensures { (result.result ≡ r.result) × (result.value ≡ r.level) }
+// The same run, with its value as a number.
+fn numbered<T, F: FnOnce(T) -> u64>(answered: Answered<T>, number: F) -> Answered<u64>
+    requires { F.pre number answered.value }
+    ensures run { result.result ≡ answered.result }
+    ensures value { F.post number answered.value result.value }
 {
-    let result = r.result;
-    Got {
-        result,
-        value: r.level as u64,
+    Answered {
+        result: answered.result,
+        value: number(answered.value),
     }
 }
 
-fn of_status(r: StatusResult) -> Got
-    ensures { (result.result ≡ r.result) × (result.value ≡ r.status.bits) }
-{
-    let result = r.result;
-    let flags = r.status;
-    Got {
-        result,
-        value: flags.bits() as u64,
-    }
-}
-
-fn of_enabled(r: EnabledResult) -> Got
-    ensures { (result.result ≡ r.result) × (result.value ≡ flag_of r.enabled) }
-{
-    let result = r.result;
-    Got {
-        result,
-        value: flag(r.enabled),
-    }
-}
-
-fn of_fifo(r: FifoResult) -> Got
-    ensures { (result.result ≡ r.result) × (result.value ≡ fifo_number r.fifo) }
-{
-    let result = r.result;
-    let fifo = r.fifo;
-    Got {
-        result,
-        value: fifo_number(fifo),
-    }
-}
-
-fn of_data(r: DataResult) -> Got
-    ensures { (result.result ≡ r.result) × (result.value ≡ words_number (words_of r.data)) }
-{
-    let result = r.result;
-    let data = r.data;
-    Got {
-        result,
-        value: data_number(data),
-    }
-}
-
+// The call's value as a number.
 fn get(
     kind: u32,
-    a: u32,
+    a: Number,
     b: u32,
     driver: Lpspi,
     budget: usize,
     script: &[u32],
     log: &mut [u32],
-) -> Got
+) -> Answered<u64>
     ensures { value_left result.result result.value log.new
-        ≡ get_by driver budget script.now log.old kind a b }
+        ≡ get_by driver budget script.now log.old kind a.0 b }
 {
-    let n = kind % 6;
-    if n == 0 {
-        return of_level(watermark(driver, direction(a), budget, script, log));
+    match kind % 6 {
+        0 => numbered(watermark(driver, a.into(), budget, script, log), u64::from),
+        1 => numbered(
+            set_watermark(driver, a.into(), (b % 256) as u8, budget, script, log),
+            u64::from,
+        ),
+        2 => numbered(
+            status(driver, budget, script, log),
+            |flags| flags.bits().into(),
+        ),
+        3 => numbered(is_enabled(driver, budget, script, log), u64::from),
+        4 => numbered(fifo_status(driver, budget, script, log), fifo_number),
+        _ => numbered(read_data(driver, budget, script, log), word_number),
     }
-    if n == 1 {
-        let level = (b % 256) as u8;
-        return of_level(set_watermark(driver, direction(a), level, budget, script, log));
-    }
-    if n == 2 {
-        return of_status(status(driver, budget, script, log));
-    }
-    if n == 3 {
-        return of_enabled(is_enabled(driver, budget, script, log));
-    }
-    if n == 4 {
-        return of_fifo(fifo_status(driver, budget, script, log));
-    }
-    of_data(read_data(driver, budget, script, log))
 }
 
 #[unsafe(no_mangle)]
@@ -294,7 +167,7 @@ pub extern "C" fn lpspi_reset(
         ≡ of_call driver.old
         (reset_by (driver_of driver.old) budget script.now log.old kind) }
 {
-    let d = driver_of(*driver);
+    let d = Number(*driver).into();
     let r = reset(kind, d, budget, script, log);
     hand_back(r, driver, accesses, answers)
 }
@@ -314,8 +187,8 @@ pub extern "C" fn lpspi_set(
         ≡ of_call driver.old
         (set_by (driver_of driver.old) budget script.now log.old kind a) }
 {
-    let d = driver_of(*driver);
-    let r = set(kind, a, d, budget, script, log);
+    let d = Number(*driver).into();
+    let r = set(kind, Number(a), d, budget, script, log);
     hand_back(r, driver, accesses, answers)
 }
 
@@ -335,8 +208,8 @@ pub extern "C" fn lpspi_disabled(
         ≡ of_call driver.old
         (disabled_by (driver_of driver.old) budget script.now log.old kind a b) }
 {
-    let d = driver_of(*driver);
-    let r = disabled(kind, a, b, d, budget, script, log);
+    let d = Number(*driver).into();
+    let r = disabled(kind, Number(a), Number(b), d, budget, script, log);
     hand_back(r, driver, accesses, answers)
 }
 
@@ -359,9 +232,8 @@ pub extern "C" fn lpspi_get(
         ≡ of_answered driver.old
         (get_by (driver_of driver.old) budget script.now log.old kind a b) }
 {
-    let d = driver_of(*driver);
-    let got = get(kind, a, b, d, budget, script, log);
+    let d = Number(*driver).into();
+    let got = get(kind, Number(a), b, d, budget, script, log);
     *value = got.value;
-    let r = got.result;
-    hand_back(r, driver, accesses, answers)
+    hand_back(got.result, driver, accesses, answers)
 }

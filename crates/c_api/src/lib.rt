@@ -8,6 +8,7 @@ pub mod call;
 pub mod clock;
 pub mod command;
 mod driver;
+mod number;
 pub mod pack;
 pub mod pair;
 pub mod run;

@@ -1,20 +1,20 @@
-// The packing and unpacking of bytes.
+// The packing and unpacking of bytes. The C interface: a refusal is a number, and the word goes where the host says.
 ghost use Rattle.std.specs.Prelude.{◌≡◌};
 ghost use Rattle.words.specs.Word.{laid, packed, unpacked_number, unpacked};
 ghost use Rattle.words.specs.Buffer.{pack_words, unpack_words};
 ghost use Rattle.c_api.specs.Host.{order_from, answered, kept};
 
-use super::command::order_of;
-use words::buffer::{pack_words_u8, unpack_words_u8};
-use words::pack::{PackResult, pack_u8};
-use words::unpack::{UnpackResult, unpack_u8};
+use crate::number::order_of;
+use words::buffer::{pack_words, unpack_words};
+use words::pack::pack;
+use words::unpack::unpack;
 
 #[unsafe(no_mangle)]
 pub extern "C" fn lpspi_pack_u8(lsb: bool, bytes: &[u8], word: &mut u32) -> u32
     ensures { answered result word.new
         ≡ kept (packed (order_from lsb) 8 bytes.now) word.old }
 {
-    let PackResult::Word(w) = pack_u8(order_of(lsb), bytes) else {
+    let Ok(w) = pack(order_of(lsb), bytes) else {
         return 8;
     };
     *word = w;
@@ -26,7 +26,7 @@ pub extern "C" fn lpspi_unpack_u8(lsb: bool, word: u32, count: usize, bytes: &mu
     ensures { (result ≡ unpacked_number 8 count)
         × (bytes.new ≡ unpacked (order_from lsb) 8 count word bytes.old) }
 {
-    let UnpackResult::Done = unpack_u8(word, order_of(lsb), count, bytes) else {
+    let Ok(()) = unpack(word, order_of(lsb), count, bytes) else {
         return 8;
     };
     0
@@ -37,7 +37,7 @@ pub extern "C" fn lpspi_pack_words_u8(lsb: bool, bytes: &[u8], total: usize, wor
     ensures { words.new
         ≡ laid (pack_words (order_from lsb) 8 total bytes.now) words.old }
 {
-    pack_words_u8(order_of(lsb), bytes, total, words);
+    pack_words(order_of(lsb), bytes, total, words);
 }
 
 #[unsafe(no_mangle)]
@@ -45,5 +45,5 @@ pub extern "C" fn lpspi_unpack_words_u8(lsb: bool, words: &[u32], total: usize, 
     ensures { bytes.new
         ≡ laid (unpack_words (order_from lsb) 8 total words.now) bytes.old }
 {
-    unpack_words_u8(order_of(lsb), words, total, bytes);
+    unpack_words(order_of(lsb), words, total, bytes);
 }

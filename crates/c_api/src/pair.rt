@@ -4,144 +4,153 @@
 // are to be sent and to be read; 16 places for each; the 30 registers. The last two are the commands that stand before the words to be
 // sent, at the gate and at the antenna. What has no room is dropped. The answer is 0, or 9 for boards that make no pair. At 9 `state` and
 // both read buffers are as found, so a host looks at the number first: zeros that it lent as `state` would read as Ok twice at both ends.
-ghost use Rattle.std.specs.Prelude.{◌<◌, min, ◌≡◌, get_or};
+// The C interface: a function for each width, parameters one by one, the refusal a number.
+ghost use Rattle.std.specs.Prelude.{◌≡◌, ◌≤◌};
 ghost use Rattle.words.specs.declared.width.Width.TheVariants.{U8, U16, U32};
 ghost use Rattle.words.specs.Word.{laid};
+ghost use Rattle.words.specs.Buffer.{filled};
+ghost use Rattle.bus.specs.Trial.{number_of};
 ghost use Rattle.bus.specs.View.{wire_of, state_of};
-ghost use Rattle.c_api.specs.HostBus.{answer_number, head_words, state_words, commands_in, pair_words, state_left};
-ghost use Rattle.c_api.specs.HostBus.{board_of, host_trial, trial_by};
+ghost use Rattle.c_api.specs.HostBus.{answer_number, head_words, state_words, pair_words, laid_from, state_left, board_of};
+ghost use Rattle.c_api.specs.HostBus.{host_trial, trial_by};
 
-use crate::driver::driver_of;
+use crate::number::Number;
 use agreement::board::Board;
+use bus::fifo::Fifo;
 use bus::station::Station;
-use bus::trial::{EndState, Outcome, trial_u8, trial_u16, trial_u32};
-use sequences::access::Access;
-use words::transaction::flag;
+use bus::trial::{EndState, Outcome, trial};
+use sequences::access::{Access, ending_number};
+use std::array;
 use words::width::Width;
-
-fn least(a: usize, b: usize) -> usize
-    ensures { result ≡ min a b }
-{
-    if a < b { a } else { b }
-}
+use words::word::Word;
 
 // Document 01's number, 255 while there is no answer.
 fn answer(access: Access) -> u32
     ensures { result ≡ answer_number access }
 {
     match access {
-        Access::Read(_) => 255,
-        Access::Write(_, _) => 255,
-        Access::Send(_) => 255,
-        Access::Receive(_) => 255,
-        Access::Done(ending) => ending.number(),
+        Access::Done(ending) => ending_number(ending),
+        _ => 255,
     }
 }
 
-fn head(station: Station) -> [u32; 6]
-    ensures { result ≡ head_words station.transfer station.flush (wire_of station.port) }
+#[tactic(auto, using(bus::proofs::QueuedLaws::words_queued))]
+fn head_words(station: &Station) -> [u32; 6]
+    ensures { result ≡ head_words station.now.transfer station.now.flush (wire_of station.now.port) }
 {
-    let transfer = station.transfer;
-    let flush = station.flush;
-    let port = station.port;
-    let transmit = port.transmit;
-    let receive = port.receive;
-    let done = answer(transfer.next());
-    let flushed = answer(flush.next());
-    let t = flag(port.t);
-    let r = flag(port.r);
-    let sends = transmit.len() as u32;
-    let receives = receive.len() as u32;
-    [done, flushed, t, r, sends, receives]
+    let port = &station.port;
+    [
+        answer(station.transfer.next()),
+        answer(station.flush.next()),
+        port.t.into(),
+        port.r.into(),
+        port.transmit.len() as u32,
+        port.receive.len() as u32,
+    ]
 }
 
-// Word `i` of an end's state.
-fn state_word(end: EndState, i: usize) -> u32
-    requires { i < 68 }
-    ensures { result ≡ get_or (state_words (state_of end)) i 0 }
+// The words of a FIFO's places, 0 where none is queued.
+fn places(fifo: &Fifo) -> [u32; 16]
+    ensures { result ≡ filled 0 16 fifo.now }
 {
-    let station = end.station;
-    if i < 6 {
-        let words = head(station);
-        return words[i];
-    }
-    let port = station.port;
-    if i < 22 {
-        let transmit = port.transmit;
-        return transmit.word(i - 6);
-    }
-    if i < 38 {
-        let receive = port.receive;
-        return receive.word(i - 22);
-    }
-    let registers = end.registers;
-    registers[i - 38]
+    array::from_fn(|i| fifo.word(i))
 }
 
-// The commands that stand before the words to be sent.
-fn commands(end: EndState) -> u32
-    ensures { result ≡ commands_in (state_of end).wire.transmit }
+// Words over `state` from a place on. What has no room is dropped.
+fn lay(words: &[u32], from: usize, state: &mut [u32])
+    ensures { state.new ≡ laid_from from words.now state.old }
 {
-    let station = end.station;
-    let port = station.port;
-    port.commands
+    if state.len() <= from {
+        return;
+    }
+    let n = words.len().min(state.len() - from);
+    state[from..from + n].copy_from_slice(&words[..n]);
 }
 
-// Word `i` of both states.
-fn pair_word(gate: EndState, antenna: EndState, i: usize) -> u32
-    requires { i < 138 }
-    ensures { result ≡ get_or (pair_words (state_of gate) (state_of antenna)) i 0 }
+// The 30 registers of an end, from a place on.
+fn lay_registers(registers: &[u32; 30], from: usize, state: &mut [u32])
+    ensures { state.new ≡ laid_from from (filled 0 30 registers.now) state.old }
 {
-    if i < 68 {
-        return state_word(gate, i);
-    }
-    if i < 136 {
-        return state_word(antenna, i - 68);
-    }
-    if i < 137 {
-        return commands(gate);
-    }
-    commands(antenna)
+    lay(registers, from, state);
 }
 
-// What has no room is dropped.
-fn show(gate: EndState, antenna: EndState, state: &mut [u32])
-    ensures { state.new ≡ laid (pair_words (state_of gate) (state_of antenna)) state.old }
+// An end's state, from a place on.
+fn show_end(end: &EndState, from: usize, state: &mut [u32])
+    requires { from ≤ 68 }
+    ensures { state.new ≡ laid_from from (state_words (state_of end.now)) state.old }
 {
-    let n = least(138, state.len());
-    for i in 0..n {
-        state[i] = pair_word(gate, antenna, i);
-    }
+    let station = &end.station;
+    lay(&head_words(station), from, state);
+    lay(&places(&station.port.transmit), from + 6, state);
+    lay(&places(&station.port.receive), from + 22, state);
+    lay_registers(&end.registers, from + 38, state);
 }
 
-// The number of a trial. At 9 `state` is as found.
+fn show(gate: &EndState, antenna: &EndState, state: &mut [u32])
+    ensures { state.new ≡ laid (pair_words (state_of gate.now) (state_of antenna.now)) state.old }
+{
+    show_end(gate, 0, state);
+    show_end(antenna, 68, state);
+    let commands = [gate.station.port.commands, antenna.station.port.commands];
+    lay(&commands, 136, state);
+}
+
+// The number of a trial. At 9 `state` is as found: it shows no ends.
 fn report(left: Outcome, state: &mut [u32]) -> u32
-    ensures { (result ≡ left.number)
-        ×
-        (state.new
-        ≡ state_left left.number (state_of left.gate) (state_of left.antenna) state.old) }
+    ensures number { result ≡ number_of left.result }
+    ensures state { state.new
+        ≡ state_left (number_of left.result) (state_of left.gate) (state_of left.antenna) state.old }
 {
-    let number = left.number;
-    if number == 9 {
-        return number;
-    }
-    let gate = left.gate;
-    let antenna = left.antenna;
-    show(gate, antenna, state);
-    number
+    let Ok(()) = left.result else {
+        return left.number();
+    };
+    show(&left.gate, &left.antenna, state);
+    left.number()
 }
 
 // In place where bit 0 of `inplace` is set.
 fn board(width: Width, driver: u32, inplace: u32, exponent: usize) -> Board
     ensures { result ≡ board_of width driver inplace exponent }
 {
-    let driver = driver_of(driver);
     Board {
-        driver,
+        driver: Number(driver).into(),
         width,
-        inplace: inplace % 2 == 1,
+        inplace: Number(inplace).into(),
         exponent,
     }
+}
+
+// A trial of boards made of numbers.
+fn tried<T: Word>(
+    gate_driver: u32,
+    antenna_driver: u32,
+    inplace: u32,
+    gate_exponent: usize,
+    antenna_exponent: usize,
+    gate_read: &mut [T],
+    gate_write: &[T],
+    antenna_read: &mut [T],
+    antenna_write: &[T],
+    events: &[u8],
+    state: &mut [u32],
+) -> u32
+    ensures { host_trial result (T.numbers gate_read.new) (T.numbers antenna_read.new) state.new
+        ≡ trial_by T.width gate_driver antenna_driver inplace gate_exponent antenna_exponent
+        (T.numbers gate_read.old) (T.numbers gate_write.now) (T.numbers antenna_read.old)
+        (T.numbers antenna_write.now) events.now state.old }
+{
+    let gate = board(T::width(), gate_driver, inplace, gate_exponent);
+    let antenna = board(T::width(), antenna_driver, inplace / 2, antenna_exponent);
+    let left = trial(
+        gate,
+        antenna,
+        gate_read,
+        gate_write,
+        antenna_read,
+        antenna_write,
+        events,
+    );
+    report(left, state)
 }
 
 // At 9 `state` is as found: it shows no ends.
@@ -164,18 +173,19 @@ pub extern "C" fn lpspi_trial_u8(
         gate_read.old gate_write.now antenna_read.old
         antenna_write.now events.now state.old }
 {
-    let gate = board(Width::U8, gate_driver, inplace, gate_exponent);
-    let antenna = board(Width::U8, antenna_driver, inplace / 2, antenna_exponent);
-    let left = trial_u8(
-        gate,
-        antenna,
+    tried(
+        gate_driver,
+        antenna_driver,
+        inplace,
+        gate_exponent,
+        antenna_exponent,
         gate_read,
         gate_write,
         antenna_read,
         antenna_write,
         events,
-    );
-    report(left, state)
+        state,
+    )
 }
 
 // At 9 `state` is as found: it shows no ends.
@@ -198,18 +208,19 @@ pub extern "C" fn lpspi_trial_u16(
         gate_read.old gate_write.now antenna_read.old
         antenna_write.now events.now state.old }
 {
-    let gate = board(Width::U16, gate_driver, inplace, gate_exponent);
-    let antenna = board(Width::U16, antenna_driver, inplace / 2, antenna_exponent);
-    let left = trial_u16(
-        gate,
-        antenna,
+    tried(
+        gate_driver,
+        antenna_driver,
+        inplace,
+        gate_exponent,
+        antenna_exponent,
         gate_read,
         gate_write,
         antenna_read,
         antenna_write,
         events,
-    );
-    report(left, state)
+        state,
+    )
 }
 
 // At 9 `state` is as found: it shows no ends.
@@ -232,16 +243,17 @@ pub extern "C" fn lpspi_trial_u32(
         gate_read.old gate_write.now antenna_read.old
         antenna_write.now events.now state.old }
 {
-    let gate = board(Width::U32, gate_driver, inplace, gate_exponent);
-    let antenna = board(Width::U32, antenna_driver, inplace / 2, antenna_exponent);
-    let left = trial_u32(
-        gate,
-        antenna,
+    tried(
+        gate_driver,
+        antenna_driver,
+        inplace,
+        gate_exponent,
+        antenna_exponent,
         gate_read,
         gate_write,
         antenna_read,
         antenna_write,
         events,
-    );
-    report(left, state)
+        state,
+    )
 }

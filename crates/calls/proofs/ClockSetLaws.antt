@@ -19,7 +19,7 @@ use Rattle.words.specs.Tolerance.{word_for, Tolerance}
 use Rattle.words.proofs.ToleranceLaws.{tolerance}
 use Rattle.sequences.specs.declared.access.Access.{Access}
 use Rattle.sequences.specs.declared.access.Access.TheVariants.{Read}
-use Rattle.sequences.specs.declared.access.Ending.TheVariants.{Ok}
+use Rattle.std.specs.Prelude.{Ok}
 use Rattle.sequences.specs.declared.call.Call.{Call}
 use Rattle.sequences.specs.declared.call.Call.TheVariants.{SetClockConfigs}
 use Rattle.sequences.specs.declared.driver.Lpspi.{Lpspi}
@@ -105,7 +105,7 @@ module _ (k : ClockConfigs) (d : Lpspi) where
 
   -- Ok comes only behind the write
   ok_behind : (b : Bool) (place held : ℕ) (kept : List ℕ) (driver : Lpspi) (ws : List ℕ)
-      → ending_of (call_access call (sequence b place held kept driver)) ≡ Ok → Now place driver ws
+      → ending_of (call_access call (sequence b place held kept driver)) ≡ Ok tt → Now place driver ws
       → (driver ≡ with_clock k d) × (ws ≡ clock_word k ∷ [])
   unfolding call_access
   ok_behind true place held kept driver ws e n = (cc, cc)

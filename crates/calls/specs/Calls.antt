@@ -1,12 +1,11 @@
 -- The other calls of document 01 as runs: `call_run` (runs `Call`) over the call's table (sequences `Call`).
 -- Assumes nothing.
-use Rattle.std.specs.Prelude.{ℕ, cond, List, eqb}
+use Rattle.std.specs.Prelude.{ℕ, cond, List, eqb, is_ok, Err}
 use Rattle.words.specs.Clock.{clocked}
-use Rattle.sequences.specs.declared.access.Ending.TheVariants.{ZeroClock}
+use Rattle.sequences.specs.declared.access.RunError.TheVariants.{ZeroClock}
 use Rattle.sequences.specs.declared.call.Call.TheVariants.{SetClockConfigs}
 use Rattle.sequences.specs.declared.driver.Lpspi.{Lpspi}
 use Rattle.sequences.specs.declared.sequence.Sequence.{Sequence}
-use Rattle.sequences.specs.Access.{number_of}
 use Rattle.runs.specs.declared.result.RunResult.{RunResult}
 use Rattle.runs.specs.Run.{Left, left, limits, unmoved, over_limits}
 use Rattle.runs.specs.Call.{CallLeft, called_result, call_run}
@@ -26,11 +25,11 @@ value_left r v log = record { run = left r log; value = v }
 -- its value comes with Ok; refused or stopped it is `none`
 abbrev pub valued : {A : Type 0} → (Sequence → A) → A → CallLeft → Answered A
 valued value none c =
-    value_left (called_result c.called) (cond (eqb (number_of c.called.ending) 0) (value c.called.sequence) none) c.log
+    value_left (called_result c.called) (cond (is_ok c.called.ending) (value c.called.sequence) none) c.log
 
 -- clock entry, 6: source or wanted clock is 0; all as found
 abbrev pub clock_refused : Lpspi → List ℕ → Left
-clock_refused d log = left (unmoved d ZeroClock) log
+clock_refused d log = left (unmoved d (Err ZeroClock)) log
 
 -- number 5 comes before it
 abbrev pub set_clock_hz_run : Lpspi → ℕ → ℕ → ℕ → List ℕ → List ℕ → Left

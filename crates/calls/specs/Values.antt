@@ -1,6 +1,6 @@
 -- The values of calls: each comes from the registers that its run read.
 -- Assumes nothing.
-use Rattle.std.specs.Prelude.{ℕ, Bool, cond, List, [], ◌∷◌, leb, eqb}
+use Rattle.std.specs.Prelude.{ℕ, Bool, cond, Option, Some, None, leb, eqb}
 use Rattle.manual.specs.declared.Cr.TheVariants.{MEN}
 use Rattle.manual.specs.declared.Field.TheVariants.{Cr, Fsr, Rsr}
 use Rattle.manual.specs.declared.Fsr.TheVariants.{TXCOUNT, RXCOUNT}
@@ -14,8 +14,6 @@ use Rattle.sequences.specs.declared.status.Status.{Status}
 use Rattle.sequences.specs.Sequence.{kept_of, depth_of, water_of, level_of}
 use Rattle.sequences.specs.Status.{status_of}
 use Rattle.calls.specs.declared.results.FifoStatus.{FifoStatus}
-use Rattle.calls.specs.declared.results.Data.{Data}
-use Rattle.calls.specs.declared.results.Data.TheVariants.{Word, Empty}
 
 -- the direction's watermark in FCR
 abbrev pub watermark_in : Direction → Sequence → ℕ
@@ -44,13 +42,9 @@ fifo_status param counts =
 abbrev pub fifo_in : Sequence → FifoStatus
 fifo_in s = fifo_status (kept_of PARAM s.kept) s.held
 
--- the words of `read_data`: RDR's only if RXEMPTY is 0; otherwise no word
-abbrev pub data_in : Sequence → List ℕ
-data_in s = cond (eqb (read_field (Rsr RXEMPTY) (kept_of RSR s.kept)) 0) (s.held ∷ []) []
-
-abbrev pub words_of : Data → List ℕ
-words_of (Word w) = w ∷ []
-words_of Empty = []
+-- the word of `read_data`: RDR's only if RXEMPTY is 0; otherwise no word
+abbrev pub data_in : Sequence → Option ℕ
+data_in s = cond (eqb (read_field (Rsr RXEMPTY) (kept_of RSR s.kept)) 0) (Some s.held) None
 
 -- where there is no answer
 abbrev pub no_status : Status

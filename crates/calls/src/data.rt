@@ -1,13 +1,12 @@
 // Words and commands.
-ghost use Rattle.std.specs.Prelude.{◌≡◌, []};
+ghost use Rattle.std.specs.Prelude.{◌≡◌, None};
 ghost use Rattle.sequences.specs.declared.call.Call.TheVariants.{ReadData, EnqueueData, EnqueueTransaction};
 ghost use Rattle.runs.specs.Run.{left};
 ghost use Rattle.runs.specs.Call.{call_run};
 ghost use Rattle.calls.specs.Calls.{ran_call, value_left, valued};
-ghost use Rattle.calls.specs.Values.{data_in, words_of};
+ghost use Rattle.calls.specs.Values.{data_in};
 
-use crate::entry::{is_ok, result};
-use crate::results::{Data, DataResult};
+use crate::results::Answered;
 use manual::{Field, Register, Rsr};
 use runs::call::run_call;
 use runs::result::RunResult;
@@ -16,32 +15,25 @@ use sequences::driver::Lpspi;
 use sequences::sequence::Sequence;
 use words::transaction::Transaction;
 
-fn data(sequence: Sequence) -> Data
-    ensures { words_of result ≡ data_in sequence }
+fn data(sequence: Sequence) -> Option<u32>
+    ensures { result ≡ data_in sequence }
 {
-    if Field::Rsr(Rsr::RXEMPTY).read(sequence.kept(Register::RSR)) == 0 {
-        return Data::Word(sequence.held());
-    }
-    Data::Empty
+    let has_word = Field::Rsr(Rsr::RXEMPTY).read(sequence.kept(Register::RSR)) == 0;
+    has_word.then_some(sequence.held())
 }
 
 // A received word; none where the receive FIFO is empty.
-pub fn read_data(driver: Lpspi, budget: usize, script: &[u32], log: &mut [u32]) -> DataResult
-    ensures { value_left result.result (words_of result.data) log.new
-        ≡ valued data_in [] (call_run driver ReadData budget script.now log.old) }
+pub fn read_data(
+    driver: Lpspi,
+    budget: usize,
+    script: &[u32],
+    log: &mut [u32],
+) -> Answered<Option<u32>>
+    ensures { value_left result.result result.value log.new
+        ≡ valued data_in None (call_run driver ReadData budget script.now log.old) }
 {
     let called = run_call(driver, Call::ReadData, budget, script, log);
-    if is_ok(called) {
-        let sequence = called.sequence;
-        return DataResult {
-            result: result(called),
-            data: data(sequence),
-        };
-    }
-    DataResult {
-        result: result(called),
-        data: Data::Empty,
-    }
+    Answered::new(called, None, data)
 }
 
 // Place a word into the transmit FIFO.
@@ -55,7 +47,7 @@ pub fn enqueue_data(
     ensures { left result log.new
         ≡ ran_call (call_run driver (EnqueueData word) budget script.now log.old) }
 {
-    result(run_call(driver, Call::EnqueueData(word), budget, script, log))
+    run_call(driver, Call::EnqueueData(word), budget, script, log).into()
 }
 
 // Place a command into the transmit FIFO.
@@ -69,11 +61,12 @@ pub fn enqueue_transaction(
     ensures { left result log.new
         ≡ ran_call (call_run driver (EnqueueTransaction transaction) budget script.now log.old) }
 {
-    result(run_call(
+    run_call(
         driver,
         Call::EnqueueTransaction(transaction),
         budget,
         script,
         log,
-    ))
+    )
+    .into()
 }

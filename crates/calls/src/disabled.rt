@@ -6,15 +6,14 @@ ghost use Rattle.runs.specs.Run.{left};
 ghost use Rattle.runs.specs.Call.{call_run};
 ghost use Rattle.calls.specs.Calls.{ran_call, set_clock_hz_run};
 
-use crate::entry::result;
 use runs::call::run_call;
 use runs::log::limits;
 use runs::result::RunResult;
-use sequences::access::Ending;
+use sequences::access::RunError;
 use sequences::call::Call;
 use sequences::driver::Lpspi;
 use sequences::settings::{PcsPolarity, SamplePoint};
-use words::clock::{ClockConfigs, ClockResult};
+use words::clock::{ClockConfigs, ZeroClock};
 use words::mode::Pcs;
 
 // Set the clock speed. Number 5 comes before number 6.
@@ -30,13 +29,11 @@ pub fn set_clock_hz(
         ≡ set_clock_hz_run driver source_clock_hz clock_hz budget script.now log.old }
 {
     if limits(budget, log) {
-        return RunResult::unmoved(driver, Ending::Limits);
+        return RunResult::unmoved(driver, Err(RunError::Limits));
     }
     match ClockConfigs::from_hz(source_clock_hz, clock_hz) {
-        ClockResult::Ok(clock) => {
-            result(run_call(driver, Call::SetClockConfigs(clock), budget, script, log))
-        }
-        ClockResult::ZeroClock => RunResult::unmoved(driver, Ending::ZeroClock),
+        Ok(clock) => set_clock_configs(driver, clock, budget, script, log),
+        Err(ZeroClock) => RunResult::unmoved(driver, Err(RunError::ZeroClock)),
     }
 }
 
@@ -50,7 +47,7 @@ pub fn set_clock_configs(
     ensures { left result log.new
         ≡ ran_call (call_run driver (SetClockConfigs timing) budget script.now log.old) }
 {
-    result(run_call(driver, Call::SetClockConfigs(timing), budget, script, log))
+    run_call(driver, Call::SetClockConfigs(timing), budget, script, log).into()
 }
 
 pub fn set_sample_point(
@@ -63,13 +60,14 @@ pub fn set_sample_point(
     ensures { left result log.new
         ≡ ran_call (call_run driver (SetSamplePoint sample_point) budget script.now log.old) }
 {
-    result(run_call(
+    run_call(
         driver,
         Call::SetSamplePoint(sample_point),
         budget,
         script,
         log,
-    ))
+    )
+    .into()
 }
 
 // Become a peripheral, or a controller again.
@@ -83,13 +81,14 @@ pub fn set_peripheral_enable(
     ensures { left result log.new
         ≡ ran_call (call_run driver (SetPeripheralEnable enable) budget script.now log.old) }
 {
-    result(run_call(
+    run_call(
         driver,
         Call::SetPeripheralEnable(enable),
         budget,
         script,
         log,
-    ))
+    )
+    .into()
 }
 
 pub fn set_chip_select_polarity(
@@ -104,11 +103,12 @@ pub fn set_chip_select_polarity(
         ≡ ran_call
         (call_run driver (SetChipSelectPolarity pcs polarity) budget script.now log.old) }
 {
-    result(run_call(
+    run_call(
         driver,
         Call::SetChipSelectPolarity(pcs, polarity),
         budget,
         script,
         log,
-    ))
+    )
+    .into()
 }

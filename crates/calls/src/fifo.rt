@@ -6,8 +6,7 @@ ghost use Rattle.runs.specs.Call.{call_run};
 ghost use Rattle.calls.specs.Calls.{ran_call, value_left, valued};
 ghost use Rattle.calls.specs.Values.{watermark_in, level_in, fifo_status, fifo_in, no_fifo};
 
-use crate::entry::{is_ok, result};
-use crate::results::{FifoResult, FifoStatus, LevelResult};
+use crate::results::{Answered, FifoStatus};
 use manual::{Field, Fsr, Register};
 use runs::call::run_call;
 use runs::result::RunResult;
@@ -23,23 +22,13 @@ pub fn watermark(
     budget: usize,
     script: &[u32],
     log: &mut [u32],
-) -> LevelResult
-    ensures { value_left result.result result.level log.new
+) -> Answered<u8>
+    ensures { value_left result.result result.value log.new
         ≡ valued (watermark_in direction) 0
         (call_run driver GetWatermark budget script.now log.old) }
 {
     let called = run_call(driver, Call::GetWatermark, budget, script, log);
-    if is_ok(called) {
-        let sequence = called.sequence;
-        return LevelResult {
-            result: result(called),
-            level: water(direction).read(sequence.held()) as u8,
-        };
-    }
-    LevelResult {
-        result: result(called),
-        level: 0,
-    }
+    Answered::new(called, 0, |s| water(direction).read(s.held()) as u8)
 }
 
 // Set the direction's watermark. The level is the one that was set.
@@ -50,29 +39,18 @@ pub fn set_watermark(
     budget: usize,
     script: &[u32],
     log: &mut [u32],
-) -> LevelResult
-    ensures { value_left result.result result.level log.new
+) -> Answered<u8>
+    ensures { value_left result.result result.value log.new
         ≡ valued (level_in direction watermark) 0
         (call_run driver (SetWatermark direction watermark) budget script.now log.old) }
 {
-    let called = run_call(
-        driver,
-        Call::SetWatermark(direction, watermark),
-        budget,
-        script,
-        log,
-    );
-    if is_ok(called) {
-        let sequence = called.sequence;
-        return LevelResult {
-            result: result(called),
-            level: level(direction, watermark, sequence.kept(Register::PARAM)) as u8,
-        };
-    }
-    LevelResult {
-        result: result(called),
-        level: 0,
-    }
+    let set = Call::SetWatermark(direction, watermark);
+    let called = run_call(driver, set, budget, script, log);
+    Answered::new(
+        called,
+        0,
+        |s| level(direction, watermark, s.kept(Register::PARAM)) as u8,
+    )
 }
 
 pub fn clear_fifo(
@@ -85,7 +63,7 @@ pub fn clear_fifo(
     ensures { left result log.new
         ≡ ran_call (call_run driver (ClearFifo direction) budget script.now log.old) }
 {
-    result(run_call(driver, Call::ClearFifo(direction), budget, script, log))
+    run_call(driver, Call::ClearFifo(direction), budget, script, log).into()
 }
 
 fn fifo(param: u32, counts: u32) -> FifoStatus
@@ -100,25 +78,19 @@ fn fifo(param: u32, counts: u32) -> FifoStatus
 }
 
 // The counts and depths of the FIFOs.
-pub fn fifo_status(driver: Lpspi, budget: usize, script: &[u32], log: &mut [u32]) -> FifoResult
-    ensures { value_left result.result result.fifo log.new
+pub fn fifo_status(
+    driver: Lpspi,
+    budget: usize,
+    script: &[u32],
+    log: &mut [u32],
+) -> Answered<FifoStatus>
+    ensures { value_left result.result result.value log.new
         ≡ valued fifo_in no_fifo (call_run driver GetFifoStatus budget script.now log.old) }
 {
     let called = run_call(driver, Call::GetFifoStatus, budget, script, log);
-    if is_ok(called) {
-        let sequence = called.sequence;
-        return FifoResult {
-            result: result(called),
-            fifo: fifo(sequence.kept(Register::PARAM), sequence.held()),
-        };
-    }
-    FifoResult {
-        result: result(called),
-        fifo: FifoStatus {
-            rxcount: 0,
-            txcount: 0,
-            rxcap: 0,
-            txcap: 0,
-        },
-    }
+    Answered::new(
+        called,
+        FifoStatus::default(),
+        |s| fifo(s.kept(Register::PARAM), s.held()),
+    )
 }

@@ -5,7 +5,6 @@ ghost use Rattle.runs.specs.Run.{left};
 ghost use Rattle.runs.specs.Call.{call_run};
 ghost use Rattle.calls.specs.Calls.{ran_call};
 
-use crate::entry::result;
 use runs::call::run_call;
 use runs::result::RunResult;
 use sequences::call::Call;
@@ -16,7 +15,7 @@ pub fn soft_reset(driver: Lpspi, budget: usize, script: &[u32], log: &mut [u32])
     ensures { left result log.new
         ≡ ran_call (call_run driver SoftReset budget script.now log.old) }
 {
-    result(run_call(driver, Call::SoftReset, budget, script, log))
+    run_call(driver, Call::SoftReset, budget, script, log).into()
 }
 
 // The reset, then the error flags cleared.
@@ -29,7 +28,7 @@ pub fn recover_from_error(
     ensures { left result log.new
         ≡ ran_call (call_run driver RecoverFromError budget script.now log.old) }
 {
-    result(run_call(driver, Call::RecoverFromError, budget, script, log))
+    run_call(driver, Call::RecoverFromError, budget, script, log).into()
 }
 
 // The peripheral from its reset to its enabled state. With number 5 the driver value is the one given, past it the starting one.
@@ -37,5 +36,5 @@ pub fn init(driver: Lpspi, budget: usize, script: &[u32], log: &mut [u32]) -> Ru
     ensures { left result log.new
         ≡ ran_call (call_run driver Init budget script.now log.old) }
 {
-    result(run_call(driver, Call::Init, budget, script, log))
+    run_call(driver, Call::Init, budget, script, log).into()
 }

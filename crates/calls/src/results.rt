@@ -1,31 +1,41 @@
-// What calls with a value answer. The value comes with Ok; refused or stopped it is 0, false or nothing.
-ghost use Rattle.std.specs.Prelude.{◌≡◌};
+// What calls with a value answer.
+ghost use Rattle.std.specs.Prelude.{◌≡◌, OnErr, OnOk};
+ghost use Rattle.runs.specs.Call.{called_result};
 ghost use Rattle.calls.specs.Values.{is_full};
 
+use runs::call::Called;
 use runs::result::RunResult;
-use sequences::status::Status;
+use sequences::sequence::Sequence;
 use words::transaction::Direction;
 
+// A run's result, and the call's value. The value comes with Ok; refused or stopped it is 0, false or nothing.
 #[derive(Clone, Copy)]
-pub struct LevelResult {
+pub struct Answered<T> {
     pub result: RunResult,
-    pub level: u8,
+    pub value: T,
 }
 
-#[derive(Clone, Copy)]
-pub struct StatusResult {
-    pub result: RunResult,
-    pub status: Status,
-}
-
-#[derive(Clone, Copy)]
-pub struct EnabledResult {
-    pub result: RunResult,
-    pub enabled: bool,
+impl<T: Drop> Answered<T> {
+    // With `value` of what the call has read where it came to its end, `none` where it was refused or stopped.
+    pub(crate) fn new<F: FnOnce(Sequence) -> T + Drop>(called: Called, none: T, value: F) -> Self
+        requires { F.pre value called.sequence }
+        ensures run { result.result ≡ called_result called }
+        ensures ok { OnOk called.ending (F.post value called.sequence result.value) }
+        ensures err { OnErr called.ending (result.value ≡ none) }
+    {
+        let value = match called.ending {
+            Ok(()) => value(called.sequence),
+            Err(_) => none,
+        };
+        Answered {
+            result: called.into(),
+            value,
+        }
+    }
 }
 
 // The counts of the FIFOs, and their depths. Of zeros, `is_full` is true.
-#[derive(Clone, Copy)]
+#[derive(Clone, Copy, Default)]
 pub struct FifoStatus {
     pub rxcount: u16,
     pub txcount: u16,
@@ -42,23 +52,4 @@ impl FifoStatus {
             Direction::Rx => self.rxcap <= self.rxcount,
         }
     }
-}
-
-#[derive(Clone, Copy)]
-pub struct FifoResult {
-    pub result: RunResult,
-    pub fifo: FifoStatus,
-}
-
-// A received word, if there was one.
-#[derive(Clone, Copy)]
-pub enum Data {
-    Word(u32),
-    Empty,
-}
-
-#[derive(Clone, Copy)]
-pub struct DataResult {
-    pub result: RunResult,
-    pub data: Data,
 }

@@ -6,8 +6,7 @@ ghost use Rattle.runs.specs.Call.{call_run};
 ghost use Rattle.calls.specs.Calls.{ran_call, value_left, valued};
 ghost use Rattle.calls.specs.Values.{status_in, no_status, enabled_in};
 
-use crate::entry::{is_ok, result};
-use crate::results::{EnabledResult, StatusResult};
+use crate::results::Answered;
 use manual::{Cr, Field};
 use runs::call::run_call;
 use runs::result::RunResult;
@@ -16,22 +15,16 @@ use sequences::driver::Lpspi;
 use sequences::status::Status;
 
 // The status flags.
-pub fn status(driver: Lpspi, budget: usize, script: &[u32], log: &mut [u32]) -> StatusResult
-    ensures { value_left result.result result.status log.new
+pub fn status(driver: Lpspi, budget: usize, script: &[u32], log: &mut [u32]) -> Answered<Status>
+    ensures { value_left result.result result.value log.new
         ≡ valued status_in no_status (call_run driver GetStatus budget script.now log.old) }
 {
     let called = run_call(driver, Call::GetStatus, budget, script, log);
-    if is_ok(called) {
-        let sequence = called.sequence;
-        return StatusResult {
-            result: result(called),
-            status: Status::from_bits_truncate(sequence.held()),
-        };
-    }
-    StatusResult {
-        result: result(called),
-        status: Status::from_bits_truncate(0),
-    }
+    Answered::new(
+        called,
+        Status::from_bits_truncate(0),
+        |s| Status::from_bits_truncate(s.held()),
+    )
 }
 
 // Clear those of the flags that are cleared by writing 1.
@@ -45,26 +38,16 @@ pub fn clear_status(
     ensures { left result log.new
         ≡ ran_call (call_run driver (ClearStatus flags) budget script.now log.old) }
 {
-    result(run_call(driver, Call::ClearStatus(flags), budget, script, log))
+    run_call(driver, Call::ClearStatus(flags), budget, script, log).into()
 }
 
 // The peripheral is enabled.
-pub fn is_enabled(driver: Lpspi, budget: usize, script: &[u32], log: &mut [u32]) -> EnabledResult
-    ensures { value_left result.result result.enabled log.new
+pub fn is_enabled(driver: Lpspi, budget: usize, script: &[u32], log: &mut [u32]) -> Answered<bool>
+    ensures { value_left result.result result.value log.new
         ≡ valued enabled_in false (call_run driver IsEnabled budget script.now log.old) }
 {
     let called = run_call(driver, Call::IsEnabled, budget, script, log);
-    if is_ok(called) {
-        let sequence = called.sequence;
-        return EnabledResult {
-            result: result(called),
-            enabled: Field::Cr(Cr::MEN).read(sequence.held()) == 1,
-        };
-    }
-    EnabledResult {
-        result: result(called),
-        enabled: false,
-    }
+    Answered::new(called, false, |s| Field::Cr(Cr::MEN).read(s.held()) == 1)
 }
 
 pub fn set_enable(
@@ -77,5 +60,5 @@ pub fn set_enable(
     ensures { left result log.new
         ≡ ran_call (call_run driver (SetEnable enable) budget script.now log.old) }
 {
-    result(run_call(driver, Call::SetEnable(enable), budget, script, log))
+    run_call(driver, Call::SetEnable(enable), budget, script, log).into()
 }

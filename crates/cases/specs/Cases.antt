@@ -1,14 +1,13 @@
 -- The P cases of document 01, a row each, in its order: four of words, seven of commands, two of clocks, one of `buslog`. What the
 -- definitions give stands beside what 01 says. A row is two lists of numbers: words, or a result number and its word, or bytes.
 -- Assumes nothing.
-use Rattle.std.specs.Prelude.{ℕ, List, [], ◌∷◌, ◌++◌, ◌≡◌}
+use Rattle.std.specs.Prelude.{ℕ, List, [], ◌∷◌, ◌++◌, ◌≡◌, codes}
 use Rattle.words.specs.declared.order.BitOrder.TheVariants.{Msb, Lsb}
 use Rattle.words.specs.declared.mode.Mode.{Mode}
 use Rattle.words.specs.declared.mode.Pcs.TheVariants.{Pcs2}
 use Rattle.words.specs.declared.mode.Phase.TheVariants.{CaptureOnSecondTransition}
 use Rattle.words.specs.declared.mode.Polarity.TheVariants.{IdleHigh}
 use Rattle.lines.specs.Buslog.{buslog}
-use Rattle.lines.specs.Text.{bytes}
 use Rattle.words.specs.Answer.{Answer}
 use Rattle.words.specs.Buffer.{pack_words}
 use Rattle.words.specs.Clock.{ClockAnswer, clocked, clock_word}
@@ -49,10 +48,10 @@ cases =
     ∷ row (command (commanded (bus_word Lsb mode3 Pcs2) 40)) (0 ∷ 0xC2800027 ∷ [])
     ∷ row (clock (clocked 60_000_000 4_000_000)) (0 ∷ 0x0707070E ∷ [])
     ∷ row (clock (clocked 60_000_000 100_000)) (0 ∷ 0x7F7F7FFE ∷ [])
-    ∷ row (buslog (bytes "8 M 20\nA5\n1\n0 404 0 0 404 0 0 404 10000 5A\n"))
-    (bytes "R 14 00000000\nR 04 00000404\nR 5C 00000000\nW 60 00000007\n"
-    ++ (bytes "R 14 00000000\nR 04 00000404\nR 5C 00000000\nW 64 000000A5\n"
-    ++ bytes "R 14 00000000\nR 04 00000404\nR 5C 00010000\nR 74 0000005A\n5A\n0 12 10\n"))
+    ∷ row (buslog (codes "8 M 20\nA5\n1\n0 404 0 0 404 0 0 404 10000 5A\n"))
+    (codes "R 14 00000000\nR 04 00000404\nR 5C 00000000\nW 60 00000007\n"
+    ++ (codes "R 14 00000000\nR 04 00000404\nR 5C 00000000\nW 64 000000A5\n"
+    ++ codes "R 14 00000000\nR 04 00000404\nR 5C 00010000\nR 74 0000005A\n5A\n0 12 10\n"))
     ∷ []
 
 -- in every row the definitions give what 01 says

@@ -1,12 +1,14 @@
 -- A buffer with a text from a place on: one byte, a text after a text, a byte behind a text.
 -- Assumes nothing.
+use borrow.Rule.Slice.PartMut.{put_mid}
+use Rattle.lines.specs.declared.print.Cursor.{Cursor}
+use Rattle.lines.specs.Puts.{Puts}
 use Prim.Native.Nat.{ℕ, zero, suc, ◌+◌, ◌-◌, ◌/◌, ◌%◌, ◌<◌, ◌≤◌}
 use mathlib.Core.List.{List, [], ◌∷◌, ◌++◌}
 use mathlib.Core.Path.{◌≡◌, refl, sym, ap, ◌∙◌}
 use native.Mathlib.Numerals.{add-one}
 use native.Mathlib.Omega.{arith}
-use lib.ListN.{length, get_or, take, set, length-append}
-use lib.Seq.{take-suc, take-suc-set}
+use lib.ListN.{length, set, length-append}
 use Rattle.lines.specs.Text.{glyph, digits, written}
 
 pub length_digits : (base k n : ℕ) → length (digits base k n) ≡ k
@@ -22,11 +24,14 @@ written_nothing out zero = refl
 written_nothing [] (suc at) = refl
 written_nothing (b ∷ bs) (suc at) = ap (λ (l : List ℕ). b ∷ l) (written_nothing bs at)
 
--- one byte
-pub written_byte : (out : List ℕ) (at b : ℕ) → at < length out → set out at b ≡ written out at (b ∷ [])
-written_byte [] at b h = absurd (omega arith)
-written_byte (x ∷ xs) zero b h = refl
-written_byte (x ∷ xs) (suc at) b h = ap (λ (l : List ℕ). x ∷ l) (written_byte xs at b (omega arith))
+-- a text that has room
+pub written_part : (out : List ℕ) (at n : ℕ) (text : List ℕ) → n ≡ length text → at + n ≤ length out → put_mid at n out text ≡ written out at text
+written_part out zero n [] e h = let z : n ≡ 0 = e in rw z refl
+written_part [] zero n (x ∷ xs) e h = absurd (omega arith)
+written_part (b ∷ bs) zero zero (x ∷ xs) e h = absurd (omega arith)
+written_part (b ∷ bs) zero (suc n) (x ∷ xs) e h = ap (λ (l : List ℕ). x ∷ l) (written_part bs 0 n xs (omega arith) (omega arith))
+written_part [] (suc at) n text e h = absurd (omega arith)
+written_part (b ∷ bs) (suc at) n text e h = ap (λ (l : List ℕ). b ∷ l) (written_part bs at n text e (omega arith))
 
 -- a byte behind a text that is still to be written
 pub written_last : (out : List ℕ) (at n b : ℕ) (text : List ℕ) → n ≡ at + length text → n < length out
@@ -69,11 +74,46 @@ digits_stored out at base l n g h r e =
     ∙ ap (λ (x : ℕ). written out at (others ++ (x ∷ []))) e
     ∙ ap (written out at) (sym (digits_step base l n h))
 
--- ONE MORE ELEMENT COPIED
-pub copied_more : (from to : List ℕ) (i : ℕ) → i < length from → length from ≡ length to → take i to ≡ take i from
-    → take (i + 1) (set to i (get_or from i 0)) ≡ take (i + 1) from
-copied_more from to i h l e =
-    rw (add-one i)
-    (take-suc-set to i (get_or from i 0) (omega arith)
-    ∙ ap (λ (xs : List ℕ). xs ++ (get_or from i 0 ∷ [])) e
-    ∙ sym (take-suc from i 0 h))
+-- WHAT A CURSOR WRITES
+
+-- a text after a text
+pub puts_then : {a b c : Cursor} {s t : List ℕ} → Puts a b s → Puts b c t → Puts a c (s ++ t)
+puts_then {a} {b} {c} {s} {t} p q = record {
+  same = q.same ∙ p.same;
+  at = omega (arith, p.at, q.at, length-append s t);
+  fits = q.fits;
+  size = q.size ∙ p.size;
+  out = written_then a.out.now b.out.now c.out.now a.at b.at s t p.at p.out q.out;
+}
+
+-- a text of which a part is left
+pub record PutsLeft (a b : Cursor) (all left : List ℕ) : Type 0 where
+  pub same : b.out.ghost_name ≡ a.out.ghost_name
+  pub at : b.at + length left ≡ a.at + length all
+  pub fits : b.at + length left ≤ length b.out.now
+  pub size : length b.out.now ≡ length a.out.now
+  pub out : written b.out.now b.at left ≡ written a.out.now a.at all
+
+pub left_start : (a : Cursor) (all : List ℕ) → a.at + length all ≤ length a.out.now → PutsLeft a a all all
+left_start a all h = record { same = refl; at = refl; fits = h; size = refl; out = refl }
+
+pub left_room : {a b : Cursor} {all : List ℕ} (s t : List ℕ) → PutsLeft a b all (s ++ t) → b.at + length s ≤ length b.out.now
+left_room s t p = omega (arith, p.fits, length-append s t)
+
+pub left_step : {a b c : Cursor} {all s t : List ℕ} → PutsLeft a b all (s ++ t) → Puts b c s → PutsLeft a c all t
+left_step {a} {b} {c} {all} {s} {t} p q = record {
+  same = q.same ∙ p.same;
+  at = omega (arith, p.at, q.at, length-append s t);
+  fits = omega (arith, p.fits, q.at, q.size, length-append s t);
+  size = q.size ∙ p.size;
+  out = ap (λ (l : List ℕ). written l c.at t) q.out ∙ written_append b.out.now b.at c.at s t q.at ∙ p.out;
+}
+
+pub left_end : {a b : Cursor} {all : List ℕ} → PutsLeft a b all [] → Puts a b all
+left_end {a} {b} {all} p = record {
+  same = p.same;
+  at = omega (arith, p.at);
+  fits = omega (arith, p.fits);
+  size = p.size;
+  out = written_nothing b.out.now b.at ∙ p.out;
+}

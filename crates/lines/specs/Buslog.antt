@@ -1,11 +1,10 @@
 -- `buslog` (document 01): a separate exchange from four lines, as text.
 -- Assumes nothing.
-use Rattle.std.specs.Prelude.{ℕ, ◌*◌, ◌≤◌, min, cond, List, ◌++◌, ◌≡◌, leb, length, take, replicate}
-use Rattle.std.proofs.Math.Option.{Option, none, some}
+use Rattle.std.specs.Prelude.{ℕ, ◌*◌, ◌≤◌, min, cond, List, ◌++◌, ◌≡◌, leb, length, take, replicate, codes, Option, Some, None}
 use Rattle.words.specs.Word.{laid}
+use Rattle.words.specs.Width.{width_bits}
 use Rattle.sequences.specs.Driver.{start_driver, with_order}
 use Rattle.transfers.specs.Transfers.{TransferLeft, exchange_separate}
-use Rattle.lines.specs.Text.{bytes}
 use Rattle.lines.specs.Grammar.{Task, task}
 use Rattle.lines.specs.Listing.{access_lines, element_lines, result_line}
 
@@ -16,7 +15,7 @@ zeros n = replicate n 0
 abbrev pub exchanged : Task → TransferLeft
 exchanged j =
     let s = j.header in
-    exchange_separate s.width (with_order s.order start_driver) (zeros j.read) j.write
+    exchange_separate (width_bits s.width) (with_order s.order start_driver) (zeros j.read) j.write
     s.budget j.script (zeros (2 * min s.budget 8000))
 
 -- accesses, read elements, then the result
@@ -28,12 +27,12 @@ listing k t =
 
 -- anything else prints `bad`
 abbrev pub answer : Option Task → List ℕ
-answer none = bytes "bad\n"
-answer (some j) = listing j.header.width (exchanged j)
+answer None = codes "bad\n"
+answer (Some j) = listing (width_bits j.header.width) (exchanged j)
 
 -- an input of more than 131,072 bytes is bad
 abbrev pub buslog : List ℕ → List ℕ
-buslog text = answer (cond (leb (length text) 131072) (task text) none)
+buslog text = answer (cond (leb (length text) 131072) (task text) None)
 
 -- a buffer with a text over its front, and the text's length
 pub record Printed (text before after : List ℕ) (n : ℕ) : Type 0 where

@@ -4,3 +4,5 @@ pub mod Grammar
 pub mod Listing
 pub mod Buslog
 pub mod Parse
+pub mod Fields
+pub mod Puts

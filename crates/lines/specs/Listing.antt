@@ -1,11 +1,11 @@
 -- The output of `buslog` (document 01): accesses, read elements, and the result.
 -- Assumes nothing.
-use Rattle.std.specs.Prelude.{ℕ, ◌/◌, ◌%◌, cond, List, [], ◌∷◌, ◌++◌, ltb}
-use Rattle.lines.specs.Text.{bytes, newline, space, digits, decimal}
+use Rattle.std.specs.Prelude.{ℕ, ◌/◌, ◌%◌, cond, List, [], ◌∷◌, ◌++◌, ltb, codes}
+use Rattle.lines.specs.Text.{newline, space, digits, decimal}
 
 -- R or W, offset, value
 abbrev pub kind : ℕ → List ℕ
-kind at = cond (ltb at 0x1000) (bytes "R ") (bytes "W ")
+kind at = cond (ltb at 0x1000) (codes "R ") (codes "W ")
 
 abbrev pub access_line : ℕ → ℕ → List ℕ
 access_line at value = kind at ++ (digits 16 2 (at % 0x1000) ++ ((space ∷ []) ++ (digits 16 8 value ++ (newline ∷ []))))

@@ -1,15 +1,9 @@
 -- Bytes as text: parts between separators, and numbers of digits.
 -- Assumes nothing.
-use Prim.Native.Char.{code}
-use Rattle.std.specs.Prelude.{ℕ, zero, suc, ◌+◌, ◌-◌, ◌*◌, ◌/◌, ◌%◌, Bool, true, false, cond, ◌&&◌, List, [], ◌∷◌, ◌++◌, eqb, ltb}
-use Prim.Native.String.{String, [] as []ˢ, ◌∷◌ as ◌∷ˢ◌}
-use Rattle.std.proofs.Math.Option.{Option, none, some}
+use Rattle.std.specs.Prelude.{ℕ, zero, suc, ◌+◌, ◌-◌, ◌*◌, ◌/◌, ◌%◌, Bool, true, false, cond, List, [], ◌∷◌, ◌++◌, eqb, ltb}
+use Rattle.std.specs.Prelude.{Option, Some, None, option_and_then}
+use Rattle.std.specs.List.{slice_split}
 use Rattle.words.specs.Word.{laid}
-
--- a text's bytes
-abbrev pub bytes : String → List ℕ
-bytes []ˢ = []
-bytes (c ∷ˢ s) = code c ∷ bytes s
 
 abbrev pub newline : ℕ
 newline = 10
@@ -17,45 +11,31 @@ newline = 10
 abbrev pub space : ℕ
 space = 32
 
--- equal texts
-abbrev pub same : List ℕ → List ℕ → Bool
-same [] [] = true
-same [] (y ∷ ys) = false
-same (x ∷ xs) [] = false
-same (x ∷ xs) (y ∷ ys) = eqb x y && same xs ys
-
 -- PARTS
-
--- a byte in front of the first part
-abbrev pub on_first : ℕ → List (List ℕ) → List (List ℕ)
-on_first b [] = (b ∷ []) ∷ []
-on_first b (p ∷ ps) = (b ∷ p) ∷ ps
 
 -- the parts of a text between separators: n separators make n + 1 parts
 abbrev pub split : ℕ → List ℕ → List (List ℕ)
-split s [] = [] ∷ []
-split s (b ∷ bs) = cond (eqb b s) ([] ∷ split s bs) (on_first b (split s bs))
+split s = slice_split (λ b. eqb b s)
 
 -- NUMBERS
 
 -- what follows a value, if there is one
 abbrev pub bind : {A B : Type 0} → Option A → (A → Option B) → Option B
-bind none f = none
-bind (some a) f = f a
+bind o f = option_and_then f o
 
 -- a value that passes a test
 abbrev pub only : {A : Type 0} → Bool → A → Option A
-only true a = some a
-only false a = none
+only true a = Some a
+only false a = None
 
 -- the value of a digit: 0 to 9, A to F, and a to f
 abbrev pub digit : ℕ → Option ℕ
 digit b =
-    cond (ltb b 48) none
-    (cond (ltb b 58) (some (b - 48))
-    (cond (ltb b 65) none
-    (cond (ltb b 71) (some (b - 55))
-    (cond (ltb b 97) none (cond (ltb b 103) (some (b - 87)) none)))))
+    cond (ltb b 48) None
+    (cond (ltb b 58) (Some (b - 48))
+    (cond (ltb b 65) None
+    (cond (ltb b 71) (Some (b - 55))
+    (cond (ltb b 97) None (cond (ltb b 103) (Some (b - 87)) None)))))
 
 -- a digit of a base
 abbrev pub digit_in : ℕ → ℕ → Option ℕ
@@ -63,18 +43,13 @@ digit_in base b = bind (digit b) (λ d. only (ltb d base) d)
 
 -- the number n, and more digits after it
 abbrev pub numeral_from : ℕ → ℕ → List ℕ → Option ℕ
-numeral_from base n [] = some n
+numeral_from base n [] = Some n
 numeral_from base n (b ∷ bs) = bind (digit_in base b) (λ d. numeral_from base (n * base + d) bs)
 
 -- a number has a digit
 abbrev pub numeral : ℕ → List ℕ → Option ℕ
-numeral base [] = none
+numeral base [] = None
 numeral base (b ∷ bs) = numeral_from base 0 (b ∷ bs)
-
--- the bytes before the first separator (private contracts cite it)
-abbrev pub up_to : ℕ → List ℕ → ℕ
-up_to s [] = 0
-up_to s (b ∷ bs) = cond (eqb b s) 0 (suc (up_to s bs))
 
 -- PRINTED
 

@@ -1,15 +1,18 @@
 // `buslog` over slices: the text that the program reads, and the text that it prints.
-ghost use Rattle.std.specs.Prelude.{◌≤◌, min, ◌≡◌, length};
-ghost use Rattle.std.proofs.Math.Option.{none};
-ghost use Rattle.sequences.specs.Driver.{start_driver, with_order};
-ghost use Rattle.transfers.specs.Transfers.{exchange_separate};
-ghost use Rattle.lines.specs.Buslog.{zeros, listing, exchanged, answer, buslog as buslog_of, Printed};
-ghost use Rattle.lines.specs.Parse.{Sound};
+ghost use Rattle.std.specs.Prelude.{◌≡◌, None, Some, length};
+ghost use Rattle.words.specs.Width.{width_bits};
+ghost use Rattle.transfers.specs.Transfers.{transfer_left};
+ghost use Rattle.lines.specs.Buslog.{zeros, listing, answer, buslog as buslog_of, Printed};
+ghost use Rattle.lines.specs.Parse.{requested, task_of};
+ghost use Rattle.lines.specs.Puts.{Listable};
 
-use crate::list::{run_u8, run_u16, run_u32};
-use crate::parse::{Header, Parsed, read_task};
-use crate::print::put;
+use crate::parse::{Asked, Request};
+use crate::print::Cursor;
+use runs::result::RunResult;
 use sequences::driver::Lpspi;
+use transfers::exchange_separate::exchange_separate;
+use words::width::Width;
+use words::word::Word;
 
 // The longest input.
 pub const INPUT: usize = 131_072;
@@ -23,87 +26,65 @@ fn output() -> usize
     OUTPUT
 }
 
-fn least(a: usize, b: usize) -> usize
-    ensures { result ≡ min a b }
+fn bad(out: &mut [u8; OUTPUT]) -> usize
+    ensures { Printed (answer None) out.old out.new result }
 {
-    if a < b { a } else { b }
+    let mut cursor = Cursor { out, at: 0 };
+    cursor.put(b"bad\n");
+    cursor.at
 }
 
-fn bad(out: &mut [u8]) -> usize
-    requires { 4 ≤ length out.old }
-    ensures { Printed (answer none) out.old out.new result }
+fn list<T: Word>(r: RunResult, log: &[u32], read: &[T], out: &mut [u8; OUTPUT]) -> usize
+    requires { Listable r log.now (length read.now) }
+    ensures { Printed (listing (width_bits T.width) (transfer_left r log.now (T.numbers read.now))) out.old out.new result }
 {
-    let a = put(out, 0, 98);
-    let b = put(out, a, 97);
-    let c = put(out, b, 100);
-    put(out, c, 10)
+    let mut cursor = Cursor { out, at: 0 };
+    cursor.listing(r, log, read);
+    cursor.at
 }
 
-// The exchange at the width that was asked for.
-fn run(
-    header: Header,
-    reads: usize,
-    write: &[u32],
-    script: &[u32],
-    log: &mut [u32],
-    out: &mut [u8],
-) -> usize
-    requires { (116626 ≤ length out.old)
-        × Sound (record { header = header; write = write.now; read = reads; script = script.now }) }
-    ensures { Printed
-        (listing header.width
-        (exchange_separate header.width (with_order header.order start_driver) (zeros reads) write.now
-        header.budget script.now log.old)) out.old out.new result }
+// The exchange that was asked for, into a buffer of zeros, and its listing.
+fn exchange<T: Word>(asked: Asked<'_, T>, read: &mut [T; 512], out: &mut [u8; OUTPUT]) -> usize
+    requires { T.numbers read.old ≡ zeros 512 }
+    ensures { Printed (answer (Some (task_of T.width T.numbers asked.entry))) out.old out.new result }
 {
-    let order = header.order;
-    let budget = header.budget;
-    let driver = Lpspi::new().with_bit_order(order);
-    if header.width == 8 {
-        return run_u8(driver, reads, budget, write, script, log, out);
-    }
-    if header.width == 16 {
-        return run_u16(driver, reads, budget, write, script, log, out);
-    }
-    run_u32(driver, reads, budget, write, script, log, out)
-}
-
-// With room for the log.
-fn list(header: Header, reads: usize, write: &[u32], script: &[u32], out: &mut [u8]) -> usize
-    requires { (116626 ≤ length out.old)
-        × Sound (record { header = header; write = write.now; read = reads; script = script.now }) }
-    ensures { Printed
-        (listing header.width
-        (exchanged
-        (record { header = header; write = write.now; read = reads; script = script.now })))
-        out.old out.new result }
-{
+    let budget = asked.budget as usize;
+    let driver = Lpspi::new().with_bit_order(asked.order);
     let mut log = [0u32; 16_000];
-    let places = 2 * least(header.budget, 8_000);
-    run(header, reads, write, script, &mut log[..places], out)
+    let log = &mut log[..2 * budget.min(8_000)];
+    let read = &mut read[..asked.read];
+    let r = exchange_separate(driver, read, asked.write, budget, asked.script, log);
+    list(r, log, read, out)
+}
+
+// A request at its width; the buffer for what is read is all zeros.
+fn run<T: Word>(
+    request: &Request<'_>,
+    write: &mut [T; 512],
+    read: &mut [T; 512],
+    out: &mut [u8; OUTPUT],
+) -> usize
+    requires width { T.width ≡ request.now.header.width }
+    requires zeros { T.numbers read.old ≡ zeros 512 }
+    ensures { Printed (answer (requested request.now)) out.old out.new result }
+{
+    let mut script = [0u32; 8_000];
+    match request.elements(write, &mut script) {
+        None => bad(out),
+        Some(asked) => exchange(asked, read, out),
+    }
 }
 
 // What `buslog` prints for a text, over the front of a buffer; how long it is.
 pub fn buslog(input: &[u8], out: &mut [u8; OUTPUT]) -> usize
     ensures { Printed (buslog_of input.now) out.old out.new result }
 {
-    if INPUT < input.len() {
-        return bad(out);
-    }
-    let mut written = [0u32; 512];
-    let mut answers = [0u32; 8_000];
-    match read_task(input, &mut written, &mut answers) {
-        Parsed::Malformed => bad(out),
-        Parsed::Request(asked) => {
-            let writes = asked.writes;
-            let used = asked.answers;
-            let header = asked.header;
-            list(
-                header,
-                asked.reads,
-                &written[..writes],
-                &answers[..used],
-                out,
-            )
-        }
+    match Request::read(input) {
+        None => bad(out),
+        Some(request) => match request.header.width {
+            Width::U8 => run(&request, &mut [0u8; 512], &mut [0u8; 512], out),
+            Width::U16 => run(&request, &mut [0u16; 512], &mut [0u16; 512], out),
+            Width::U32 => run(&request, &mut [0u32; 512], &mut [0u32; 512], out),
+        },
     }
 }

@@ -2,6 +2,5 @@
 #![tactic(auto)]
 
 pub mod buslog;
-mod list;
 mod parse;
 mod print;

@@ -1,355 +1,228 @@
 // The input: numbers, lines, and the task that they ask for.
-ghost use Rattle.std.specs.Prelude.{◌+◌, ◌<◌, ◌≤◌, [], ◌∷◌, ◌≡◌, leb, length, drop};
-ghost use Rattle.lines.specs.Text.{space, split, bind, only, same as same_of, digit as digit_of, digit_in, up_to, numeral};
-ghost use Rattle.lines.specs.Grammar.{small, count as count_of, element, width_of, order_of, header as header_of};
-ghost use Rattle.lines.specs.Grammar.{asked_with, asked as asked_of, task};
-ghost use Rattle.lines.specs.Parse.{number_answer, order_answer, header_answer, LineRead, Answers};
+ghost use Rattle.std.specs.Prelude.{◌<◌, ◌≤◌, [], ◌∷◌, ◌≡◌, ◌==◌, None, cond, leb, length, position};
+ghost use Rattle.std.specs.Prelude.{IfSome, MatchOption, option_map, option_and_then};
+ghost use Rattle.words.specs.Width.{width_bits};
+ghost use Rattle.lines.specs.Text.{space, split, bind, only, digit as digit_of, digit_in as digit_in_of, numeral};
+ghost use Rattle.lines.specs.Fields.{fields};
+ghost use Rattle.lines.specs.Grammar.{small, count, element, line_elements, width_of, order_of, header as header_of, task};
 
+use crate::buslog::INPUT;
 use words::order::BitOrder;
-
-#[derive(Clone, Copy)]
-pub(crate) enum Number {
-    Value(u32),
-    Bad,
-}
-
-#[derive(Clone, Copy)]
-pub(crate) enum Order {
-    Named(BitOrder),
-    Unknown,
-}
+use words::width::Width;
+use words::word::Word;
 
 // What the first line says.
 #[derive(Clone, Copy)]
 pub(crate) struct Header {
-    pub width: usize,
+    pub width: Width,
     pub order: BitOrder,
-    pub budget: usize,
+    pub budget: u32,
 }
 
+// A first line that was read, and the lines after it.
 #[derive(Clone, Copy)]
-pub(crate) enum First {
-    Line(Header),
-    Refused,
-}
-
-// What the four lines ask for; the elements stand in buffers.
-#[derive(Clone, Copy)]
-pub(crate) struct Asked {
+pub(crate) struct Request<'a> {
     pub header: Header,
-    pub writes: usize,
-    pub reads: usize,
-    pub answers: usize,
+    pub write: &'a [u8],
+    pub read: &'a [u8],
+    pub script: &'a [u8],
 }
 
-#[derive(Clone, Copy)]
-pub(crate) enum Parsed {
-    Request(Asked),
-    Malformed,
+// What the four lines ask for, at the width of `T`; the elements stand in lent buffers.
+#[derive(Drop)]
+pub(crate) struct Asked<'a, T> {
+    pub order: BitOrder,
+    pub budget: u32,
+    pub write: &'a [T],
+    pub read: usize,
+    pub script: &'a [u32],
+    ghost write_few: { length write.now ≤ 512 },
+    ghost read_few: { read ≤ 512 },
 }
 
-#[tactic(auto, using(std::proofs::lemmas::Bool::Decides::nat_tests))]
-fn digit(byte: u8) -> Number
-    ensures { number_answer result ≡ digit_of byte }
+// The ranges as the definition has them; by `char::to_digit` the proof would go over characters, which is no plainer.
+fn digit(byte: u8) -> Option<u32>
+    ensures { result ≡ digit_of byte }
 {
-    if byte < 48 {
-        return Number::Bad;
+    match byte {
+        b'0'..=b'9' => Some(u32::from(byte - b'0')),
+        b'A'..=b'F' => Some(u32::from(byte - b'A') + 10),
+        b'a'..=b'f' => Some(u32::from(byte - b'a') + 10),
+        _ => None,
     }
-    if byte < 58 {
-        return Number::Value((byte - 48) as u32);
-    }
-    if byte < 65 {
-        return Number::Bad;
-    }
-    if byte < 71 {
-        return Number::Value((byte - 55) as u32);
-    }
-    if byte < 97 {
-        return Number::Bad;
-    }
-    if byte < 103 {
-        return Number::Value((byte - 87) as u32);
-    }
-    Number::Bad
 }
 
-fn digit_in(base: u32, byte: u8) -> Number
-    ensures { number_answer result ≡ digit_in base byte }
+fn digit_in(base: u32, byte: u8) -> Option<u32>
+    ensures { result ≡ digit_in_of base byte }
 {
-    match digit(byte) {
-        Number::Bad => Number::Bad,
-        Number::Value(d) => {
-            if d < base {
-                return Number::Value(d);
-            }
-            Number::Bad
-        }
-    }
+    digit(byte).filter(|d| *d < base)
 }
 
-// The place of the first separator from a place on, or the text's end.
-fn up_to(text: &[u8], from: usize, separator: u8) -> usize
-    requires { from ≤ length text.now }
-    ensures { (result ≡ from + up_to separator (drop from text.now)) × (result ≤ length text.now) }
-{
-    let mut n = from;
-    while n < text.len() {
-        if text[n] == separator {
-            return n;
-        }
-        n += 1;
-    }
-    n
-}
-
-// A number of digits, if it is below 2^32.
-fn read_number(base: u32, field: &[u8]) -> Number
+// A number of digits, if it is below 2^32. (`u32::from_str_radix` takes a `&str`, and a sign, which these have not.)
+#[tactic(auto, using(crate::proofs::TextLaws::too_large))]
+fn read_number(base: u32, field: &[u8]) -> Option<u32>
     requires { (0 < base) × (base ≤ 16) }
-    ensures { number_answer result ≡ bind (numeral base field.now) small }
+    ensures { result ≡ bind (numeral base field.now) small }
 {
-    if field.len() == 0 {
-        return Number::Bad;
+    if field.is_empty() {
+        return None;
     }
-    let mut n: u64 = 0;
-    for i in 0..field.len() {
-        match digit_in(base, field[i]) {
-            Number::Bad => {
-                return Number::Bad;
-            }
-            Number::Value(d) => {
-                let more = n * base as u64 + d as u64;
-                if 0xFFFF_FFFF < more {
-                    return Number::Bad;
-                }
-                n = more;
-            }
-        }
+    let mut n = 0u32;
+    for byte in field {
+        let d = digit_in(base, *byte)?;
+        n = n.checked_mul(base)?.checked_add(d)?;
     }
-    Number::Value(n as u32)
+    Some(n)
 }
 
-// An element of `k` bits.
-fn read_element(k: usize, field: &[u8]) -> Number
-    requires { k ≤ 32 }
-    ensures { number_answer result ≡ element k field.now }
+// An element of a width.
+#[tactic(auto, using(crate::proofs::TextLaws::numeral_fits))]
+fn read_element(width: Width, field: &[u8]) -> Option<u32>
+    ensures { result ≡ element (width_bits width) field.now }
 {
-    if k / 4 < field.len() {
-        return Number::Bad;
+    if usize::from(width.bits()) / 4 < field.len() {
+        return None;
     }
     read_number(16, field)
 }
 
-// The elements of a line over the front of a buffer, and how many; at most so many.
-fn read_elements(k: usize, most: usize, line: &[u8], out: &mut [u32]) -> Number
-    requires { (k ≤ 32) × (most ≤ length out.old) × (most < 4294967296) }
-    ensures { LineRead k most line.now out.new result }
+// The first field of a line, and the line after it.
+fn first_field(line: &[u8]) -> (&[u8], Option<&[u8]>)
+    ensures { split space line.now ≡ result.0.now ∷ fields result.1 }
 {
-    if line.len() == 0 {
-        return Number::Value(0);
-    }
-    let mut from = 0;
-    let mut n: usize = 0;
-    loop {
-        let end = up_to(line, from, 32);
-        match read_element(k, &line[from..end]) {
-            Number::Bad => {
-                return Number::Bad;
-            }
-            Number::Value(x) => {
-                if most <= n {
-                    return Number::Bad;
-                }
-                out[n] = x;
-                n += 1;
-            }
-        }
-        if end == line.len() {
-            return Number::Value(n as u32);
-        }
-        from = end + 1;
+    match split_once(line, b' ') {
+        None => (line, None),
+        Some((field, others)) => (field, Some(others)),
     }
 }
 
-fn same(a: &[u8], b: &[u8]) -> bool
-    ensures { result ≡ same_of a.now b.now }
+// The elements of a line, over the front of a buffer; `n` is how many, and the next place. (With a `for` over `split` the proof didn't
+// close: in a function with a type parameter the loop's invariant cannot be stated.)
+fn read_elements<'a, T: Word, const N: usize>(line: &[u8], out: &'a mut [T; N]) -> Option<&'a [T]>
+    ensures value { option_map (λ xs. T.numbers xs.now) result ≡ line_elements (width_bits T.width) N line.now }
+    ensures few { IfSome result (λ xs. length xs.now ≤ N) }
 {
-    if a.len() < b.len() {
-        return false;
-    }
-    if b.len() < a.len() {
-        return false;
-    }
-    let mut i = 0;
-    while i < a.len() {
-        if a[i] == b[i] {
-            i += 1;
-        } else {
-            return false;
+    let mut n = 0;
+    let mut rest = if line.is_empty() { None } else { Some(line) };
+    while let Some(left) = rest {
+        let (field, others) = first_field(left);
+        let x = read_element(T::width(), field)?;
+        if n == N {
+            return None;
         }
+        out[n] = T::from_word(x);
+        n += 1;
+        rest = others;
     }
-    true
+    Some(&out[..n])
 }
 
-fn read_width(field: &[u8]) -> Number
-    ensures { number_answer result ≡ width_of field.now }
+fn read_width(field: &[u8]) -> Option<Width>
+    ensures { result ≡ width_of field.now }
 {
-    if same(field, b"8") {
-        return Number::Value(8);
+    match field {
+        b"8" => Some(Width::U8),
+        b"16" => Some(Width::U16),
+        b"32" => Some(Width::U32),
+        _ => None,
     }
-    if same(field, b"16") {
-        return Number::Value(16);
-    }
-    if same(field, b"32") {
-        return Number::Value(32);
-    }
-    Number::Bad
 }
 
 // A count, at most so much.
-fn read_count(field: &[u8], most: u32) -> Number
-    ensures { number_answer result ≡ bind (count_of field.now) (λ n. only (leb n most) n) }
+fn read_count(field: &[u8], most: u32) -> Option<u32>
+    ensures value { result ≡ bind (count field.now) (λ n. only (leb n most) n) }
+    ensures few { IfSome result (λ n. n ≤ most) }
 {
-    match read_number(10, field) {
-        Number::Bad => Number::Bad,
-        Number::Value(n) => {
-            if n <= most {
-                return Number::Value(n);
-            }
-            Number::Bad
-        }
+    read_number(10, field).filter(|n| *n <= most)
+}
+
+fn read_order(field: &[u8]) -> Option<BitOrder>
+    ensures { result ≡ order_of field.now }
+{
+    match field {
+        b"M" => Some(BitOrder::Msb),
+        b"L" => Some(BitOrder::Lsb),
+        _ => None,
     }
 }
 
-fn read_order(field: &[u8]) -> Order
-    ensures { order_answer result ≡ order_of field.now }
+fn find(text: &[u8], byte: u8) -> Option<usize>
+    ensures { result ≡ position (λ b. b == byte) text.now }
 {
-    if same(field, b"M") {
-        return Order::Named(BitOrder::Msb);
-    }
-    if same(field, b"L") {
-        return Order::Named(BitOrder::Lsb);
-    }
-    Order::Unknown
+    text.iter().position(|b| *b == byte)
+}
+
+// What stands before the first separator, and what stands after it: of slices the library has no such function.
+#[tactic(auto, using(crate::proofs::PartLaws::first_part, crate::proofs::PartLaws::only_part))]
+fn split_once(text: &[u8], separator: u8) -> Option<(&[u8], &[u8])>
+    ensures { MatchOption result
+        (split separator text.now ≡ text.now ∷ [])
+        (λ p. split separator text.now ≡ p.0.now ∷ split separator p.1.now) }
+{
+    let at = find(text, separator)?;
+    Some((&text[..at], &text[at + 1..]))
 }
 
 // The three fields of the first line.
-fn read_header(width: &[u8], order: &[u8], budget: &[u8]) -> First
-    ensures { header_answer result ≡ header_of (width.now ∷ order.now ∷ budget.now ∷ []) }
+#[tactic(auto, using(crate::proofs::PartLaws::four_fields))]
+fn read_header(line: &[u8]) -> Option<Header>
+    ensures { result ≡ header_of (split space line.now) }
 {
-    match read_width(width) {
-        Number::Bad => First::Refused,
-        Number::Value(k) => match read_order(order) {
-            Order::Unknown => First::Refused,
-            Order::Named(o) => match read_number(10, budget) {
-                Number::Bad => First::Refused,
-                Number::Value(n) => First::Line(Header {
-                    width: k as usize,
-                    order: o,
-                    budget: n as usize,
-                }),
-            },
-        },
+    let (width, rest) = split_once(line, b' ')?;
+    let (order, budget) = split_once(rest, b' ')?;
+    match split_once(budget, b' ') {
+        Some(_) => None,
+        None => Some(Header {
+            width: read_width(width)?,
+            order: read_order(order)?,
+            budget: read_number(10, budget)?,
+        }),
     }
 }
 
-// The first line.
-fn read_first(line: &[u8]) -> First
-    ensures { header_answer result ≡ header_of (split space line.now) }
-{
-    let a = up_to(line, 0, 32);
-    if line.len() <= a {
-        return First::Refused;
-    }
-    let b = up_to(line, a + 1, 32);
-    if line.len() <= b {
-        return First::Refused;
-    }
-    let end = up_to(line, b + 1, 32);
-    if end < line.len() {
-        return First::Refused;
-    }
-    read_header(&line[..a], &line[a + 1..b], &line[b + 1..end])
-}
+impl<'a> Request<'a> {
+    ghost use Rattle.lines.specs.Parse.{requested, task_of};
 
-// The lines after the first.
-fn read_rest(
-    header: Header,
-    write: &[u8],
-    read: &[u8],
-    script: &[u8],
-    written: &mut [u32],
-    answers: &mut [u32],
-) -> Parsed
-    requires { (header.width ≤ 32) × (512 ≤ length written.old) × (8000 ≤ length answers.old) }
-    ensures { Answers
-        (asked_with header write.now read.now script.now)
-        written.new answers.new result }
-{
-    match read_elements(header.width, 512, write, written) {
-        Number::Bad => Parsed::Malformed,
-        Number::Value(w) => match read_count(read, 512) {
-            Number::Bad => Parsed::Malformed,
-            Number::Value(n) => match read_elements(32, 8000, script, answers) {
-                Number::Bad => Parsed::Malformed,
-                Number::Value(v) => Parsed::Request(Asked {
-                    header,
-                    writes: w as usize,
-                    reads: n as usize,
-                    answers: v as usize,
-                }),
-            },
-        },
+    // The four lines of a text.
+    #[tactic(auto, using(crate::proofs::PartLaws::fifth_line))]
+    pub(crate) fn read(text: &'a [u8]) -> Option<Request<'a>>
+        ensures { option_and_then requested result ≡ cond (leb (length text.now) INPUT) (task text.now) None }
+    {
+        if INPUT < text.len() {
+            return None;
+        }
+        let (first, rest) = split_once(text, b'\n')?;
+        let (write, rest) = split_once(rest, b'\n')?;
+        let (read, rest) = split_once(rest, b'\n')?;
+        // Nothing may follow the last line but a newline.
+        let script = match split_once(rest, b'\n') {
+            None => rest,
+            Some((line, b"")) => line,
+            Some(_) => return None,
+        };
+        Some(Request {
+            header: read_header(first)?,
+            write,
+            read,
+            script,
+        })
     }
-}
 
-// Four lines.
-fn read_lines(
-    first: &[u8],
-    write: &[u8],
-    read: &[u8],
-    script: &[u8],
-    written: &mut [u32],
-    answers: &mut [u32],
-) -> Parsed
-    requires { (512 ≤ length written.old) × (8000 ≤ length answers.old) }
-    ensures { Answers
-        (asked_of first.now write.now read.now script.now)
-        written.new answers.new result }
-{
-    match read_first(first) {
-        First::Refused => Parsed::Malformed,
-        First::Line(s) => read_rest(s, write, read, script, written, answers),
+    // With the elements, over the fronts of two buffers.
+    pub(crate) fn elements<'b, T: Word>(
+        &self,
+        write: &'b mut [T; 512],
+        script: &'b mut [u32; 8_000],
+    ) -> Option<Asked<'b, T>>
+        requires { T.width ≡ self.now.header.width }
+        ensures { option_map (task_of T.width T.numbers) result ≡ requested self.now }
+    {
+        Some(Asked {
+            order: self.header.order,
+            budget: self.header.budget,
+            write: read_elements(self.write, write)?,
+            read: read_count(self.read, 512)? as usize,
+            script: read_elements(self.script, script)?,
+        })
     }
-}
-
-// The task of a text, and its elements at the fronts of two buffers.
-pub(crate) fn read_task(text: &[u8], written: &mut [u32], answers: &mut [u32]) -> Parsed
-    requires { (512 ≤ length written.old) × (8000 ≤ length answers.old) }
-    ensures { Answers (task text.now) written.new answers.new result }
-{
-    let a = up_to(text, 0, 10);
-    if text.len() <= a {
-        return Parsed::Malformed;
-    }
-    let b = up_to(text, a + 1, 10);
-    if text.len() <= b {
-        return Parsed::Malformed;
-    }
-    let c = up_to(text, b + 1, 10);
-    if text.len() <= c {
-        return Parsed::Malformed;
-    }
-    let end = up_to(text, c + 1, 10);
-    // Nothing may follow but a newline.
-    if 1 < text.len() - end {
-        return Parsed::Malformed;
-    }
-    read_lines(
-        &text[..a],
-        &text[a + 1..b],
-        &text[b + 1..c],
-        &text[c + 1..end],
-        written,
-        answers,
-    )
 }

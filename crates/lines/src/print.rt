@@ -1,183 +1,150 @@
-// The listing, put into a buffer from a place on. Each function answers the place after what it put.
-ghost use Rattle.std.specs.Prelude.{◌+◌, ◌*◌, ◌<◌, ◌≤◌, [], ◌∷◌, ◌≡◌, length, take};
-ghost use Rattle.lines.specs.Text.{glyph as glyph_of, digits as digits_of, places as places_of, decimal as decimal_of, written};
+// The listing, written into a buffer from the front on.
+ghost use Rattle.std.specs.Prelude.{◌+◌, ◌*◌, ◌/◌, ◌<◌, ◌≤◌, ◌≡◌, length};
+ghost use Rattle.words.specs.Width.{width_bits};
+ghost use Rattle.lines.specs.Text.{glyph as glyph_of, digits as digits_of, places as places_of, decimal as decimal_of};
 ghost use Rattle.lines.specs.Listing.{kind as kind_of, access_line, access_lines, element_line, element_lines, result_line};
+ghost use Rattle.transfers.specs.Transfers.{transfer_left};
+ghost use Rattle.lines.specs.Buslog.{listing};
+ghost use Rattle.lines.specs.Puts.{Puts, Listable};
 
+use runs::result::RunResult;
+use sequences::access::ending_number;
+use words::word::Word;
+
+// A buffer, and where the text that stands in it ends: fixed memory. (Each method asks for the room of its own text.)
+#[derive(Drop)]
+pub(crate) struct Cursor<'a> {
+    pub out: &'a mut [u8],
+    pub at: usize,
+}
+
+// Digits by hand: `write!` ensures the bytes that it writes to a `String` alone, which needs a heap.
 fn glyph(digit: u32) -> u8
     requires { digit < 16 }
     ensures { result ≡ glyph_of digit }
 {
+    let digit = digit as u8;
     if digit < 10 {
-        48 + digit as u8
+        b'0' + digit
     } else {
-        55 + digit as u8
+        b'A' + (digit - 10)
     }
-}
-
-pub(crate) fn put(out: &mut [u8], at: usize, byte: u8) -> usize
-    requires { at < length out.old }
-    ensures { (result ≡ at + 1) × (out.new ≡ written out.old at (byte ∷ [])) }
-{
-    out[at] = byte;
-    at + 1
-}
-
-// The last `k` digits of a number.
-fn digits(out: &mut [u8], at: usize, base: u32, k: usize, n: u32) -> usize
-    requires { (0 < base) × (base ≤ 16) × (at + k ≤ length out.old) }
-    ensures { (result ≡ at + k) × (out.new ≡ written out.old at (digits_of base k n)) }
-{
-    let mut left = k;
-    let mut rest = n;
-    while 0 < left {
-        left -= 1;
-        out[at + left] = glyph(rest % base);
-        rest = rest / base;
-    }
-    at + k
 }
 
 fn places(n: u32) -> usize
     ensures { (result ≡ places_of n) × (result ≤ 5) }
 {
-    if n < 10 {
-        return 1;
+    match n {
+        0..10 => 1,
+        10..100 => 2,
+        100..1000 => 3,
+        1000..10000 => 4,
+        _ => 5,
     }
-    if n < 100 {
-        return 2;
+}
+
+fn kind(register: u32) -> &'static [u8]
+    ensures { result.now ≡ kind_of register }
+{
+    if register < 0x1000 { b"R " } else { b"W " }
+}
+
+impl Cursor<'_> {
+    pub(crate) fn put(&mut self, text: &[u8])
+        requires { self.old.at + length text.now ≤ length self.old.out.now }
+        ensures { Puts self.old self.new text.now }
+    {
+        let end = self.at + text.len();
+        self.out[self.at..end].copy_from_slice(text);
+        self.at = end;
     }
-    if n < 1000 {
-        return 3;
+
+    // The last `k` digits of a number, from the end on. (Of `iter_mut().rev()` the proof didn't close: it knows not what was written.)
+    fn digits(&mut self, base: u32, k: usize, n: u32)
+        requires { (0 < base) × (base ≤ 16) × (self.old.at + k ≤ length self.old.out.now) }
+        ensures { Puts self.old self.new (digits_of base k n) }
+    {
+        let mut rest = n;
+        for i in (0..k).rev() {
+            self.out[self.at + i] = glyph(rest % base);
+            rest /= base;
+        }
+        self.at += k;
     }
-    if n < 10000 {
-        return 4;
+
+    #[tactic(auto, using(crate::proofs::WrittenLaws::length_digits))]
+    fn decimal(&mut self, n: u32)
+        requires { self.old.at + 5 ≤ length self.old.out.now }
+        ensures wrote { Puts self.old self.new (decimal_of n) }
+        ensures most { self.new.at ≤ self.old.at + 5 }
+    {
+        self.digits(10, places(n), n);
     }
-    5
-}
 
-fn decimal(out: &mut [u8], at: usize, n: u32) -> usize
-    requires { at + 5 ≤ length out.old }
-    ensures { (result ≤ at + 5)
-        × (result ≡ at + length (decimal_of n))
-        × (out.new ≡ written out.old at (decimal_of n)) }
-{
-    digits(out, at, 10, places(n), n)
-}
-
-fn kind(out: &mut [u8], at: usize, register: u32) -> usize
-    requires { at + 2 ≤ length out.old }
-    ensures { (result ≡ at + 2) × (out.new ≡ written out.old at (kind_of register)) }
-{
-    if register < 0x1000 {
-        let next = put(out, at, 82);
-        return put(out, next, 32);
+    fn access_line(&mut self, register: u32, value: u32)
+        requires { self.old.at + 14 ≤ length self.old.out.now }
+        ensures wrote { Puts self.old self.new (access_line register value) }
+        ensures most { self.new.at ≡ self.old.at + 14 }
+    {
+        self.put(kind(register));
+        self.digits(16, 2, register % 0x1000);
+        self.put(b" ");
+        self.digits(16, 8, value);
+        self.put(b"\n");
     }
-    let next = put(out, at, 87);
-    put(out, next, 32)
-}
 
-pub(crate) fn access_line(out: &mut [u8], at: usize, register: u32, value: u32) -> usize
-    requires { at + 14 ≤ length out.old }
-    ensures { (result ≡ at + 14) × (out.new ≡ written out.old at (access_line register value)) }
-{
-    let offset = kind(out, at, register);
-    let gap = digits(out, offset, 16, 2, register % 0x1000);
-    let word = put(out, gap, 32);
-    let end = digits(out, word, 16, 8, value);
-    put(out, end, 10)
-}
-
-// So many accesses of a log.
-pub(crate) fn access_lines(out: &mut [u8], at: usize, log: &[u32], made: usize) -> usize
-    requires { (2 * made ≤ length log.now) × (at + 14 * made ≤ length out.old) }
-    ensures { (result ≡ at + 14 * made)
-        × (out.new ≡ written out.old at (access_lines (take (2 * made) log.now))) }
-{
-    let mut next = at;
-    for i in 0..made {
-        next = access_line(out, next, log[2 * i], log[2 * i + 1]);
+    // The accesses of a log.
+    fn access_lines(&mut self, log: &[u32])
+        requires { self.old.at + 7 * length log.now ≤ length self.old.out.now }
+        ensures { Puts self.old self.new (access_lines log.now) }
+    {
+        let mut left = log;
+        while let Some(([register, value], others)) = left.split_first_chunk::<2>() {
+            self.access_line(*register, *value);
+            left = others;
+        }
     }
-    next
-}
 
-// A read element, and all of them.
-fn byte_line(out: &mut [u8], at: usize, x: u8) -> usize
-    requires { at + 3 ≤ length out.old }
-    ensures { (result ≡ at + 3) × (out.new ≡ written out.old at (element_line 8 x)) }
-{
-    let end = digits(out, at, 16, 2, x as u32);
-    put(out, end, 10)
-}
-
-pub(crate) fn bytes(out: &mut [u8], at: usize, read: &[u8]) -> usize
-    requires { at + 3 * length read.now ≤ length out.old }
-    ensures { (result ≡ at + 3 * length read.now)
-        × (out.new ≡ written out.old at (element_lines 8 read.now)) }
-{
-    let mut next = at;
-    for i in 0..read.len() {
-        next = byte_line(out, next, read[i]);
+    // A read element.
+    fn element_line<T: Word>(&mut self, element: T)
+        requires { self.old.at + width_bits T.width / 4 + 1 ≤ length self.old.out.now }
+        ensures wrote { Puts self.old self.new (element_line (width_bits T.width) (T.number element)) }
+        ensures most { self.new.at ≡ self.old.at + width_bits T.width / 4 + 1 }
+    {
+        self.digits(16, usize::from(T::width().bits() / 4), element.into_word());
+        self.put(b"\n");
     }
-    next
-}
 
-fn half_line(out: &mut [u8], at: usize, x: u16) -> usize
-    requires { at + 5 ≤ length out.old }
-    ensures { (result ≡ at + 5) × (out.new ≡ written out.old at (element_line 16 x)) }
-{
-    let end = digits(out, at, 16, 4, x as u32);
-    put(out, end, 10)
-}
-
-pub(crate) fn halves(out: &mut [u8], at: usize, read: &[u16]) -> usize
-    requires { at + 5 * length read.now ≤ length out.old }
-    ensures { (result ≡ at + 5 * length read.now)
-        × (out.new ≡ written out.old at (element_lines 16 read.now)) }
-{
-    let mut next = at;
-    for i in 0..read.len() {
-        next = half_line(out, next, read[i]);
+    fn element_lines<T: Word>(&mut self, elements: &[T])
+        requires { self.old.at + (width_bits T.width / 4 + 1) * length elements.now ≤ length self.old.out.now }
+        ensures { Puts self.old self.new (element_lines (width_bits T.width) (T.numbers elements.now)) }
+    {
+        for element in elements {
+            self.element_line(*element);
+        }
     }
-    next
-}
 
-fn word_line(out: &mut [u8], at: usize, x: u32) -> usize
-    requires { at + 9 ≤ length out.old }
-    ensures { (result ≡ at + 9) × (out.new ≡ written out.old at (element_line 32 x)) }
-{
-    let end = digits(out, at, 16, 8, x);
-    put(out, end, 10)
-}
-
-pub(crate) fn words(out: &mut [u8], at: usize, read: &[u32]) -> usize
-    requires { at + 9 * length read.now ≤ length out.old }
-    ensures { (result ≡ at + 9 * length read.now)
-        × (out.new ≡ written out.old at (element_lines 32 read.now)) }
-{
-    let mut next = at;
-    for i in 0..read.len() {
-        next = word_line(out, next, read[i]);
+    // Result, accesses made, answers used.
+    fn result_line(&mut self, number: u32, accesses: u32, answers: u32)
+        requires { self.old.at + 18 ≤ length self.old.out.now }
+        ensures { Puts self.old self.new (result_line number accesses answers) }
+    {
+        self.decimal(number);
+        self.put(b" ");
+        self.decimal(accesses);
+        self.put(b" ");
+        self.decimal(answers);
+        self.put(b"\n");
     }
-    next
-}
 
-// Result, accesses made, answers used.
-pub(crate) fn result_line(
-    out: &mut [u8],
-    at: usize,
-    number: u32,
-    accesses: u32,
-    answers: u32,
-) -> usize
-    requires { at + 18 ≤ length out.old }
-    ensures { (result ≤ at + 18)
-        × (result ≡ at + length (result_line number accesses answers))
-        × (out.new ≡ written out.old at (result_line number accesses answers)) }
-{
-    let first = decimal(out, at, number);
-    let gap = put(out, first, 32);
-    let second = decimal(out, gap, accesses);
-    let gap = put(out, second, 32);
-    let third = decimal(out, gap, answers);
-    put(out, third, 10)
+    // Accesses, read elements, then the result.
+    pub(crate) fn listing<T: Word>(&mut self, r: RunResult, log: &[u32], read: &[T])
+        requires fits { Listable r log.now (length read.now) }
+        requires room { self.old.at + 116626 ≤ length self.old.out.now }
+        ensures { Puts self.old self.new (listing (width_bits T.width) (transfer_left r log.now (T.numbers read.now))) }
+    {
+        self.access_lines(&log[..2 * r.accesses]);
+        self.element_lines(read);
+        self.result_line(ending_number(r.ending), r.accesses as u32, r.answers as u32);
+    }
 }

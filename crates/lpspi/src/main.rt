@@ -8,82 +8,59 @@
 
 ghost use Rattle.std.specs.Prelude.{◌≡◌, ◌≤◌, length, IfOk};
 
+mod elements;
 mod line;
+mod list;
 mod names;
 mod print;
 mod result;
 mod run;
 mod text;
 mod value;
-mod width_u16;
-mod width_u32;
-mod width_u8;
 
-use std::io;
+use line::Line;
+use names::Call;
 use std::io::Read;
-use std::num::wrapping_add_usize;
+use std::{io, str};
 
 // The longest input.
 const INPUT: usize = 262_144;
 
-// The call of a line. False where the line is bad.
-fn call(out: &impl Print, line: &[u8]) -> io::Result<bool> {
-    let mut numbers = [0u32; line::NUMBERS];
-    let end = text::word_end(line);
-    if line::parse(&mut numbers, text::part(line, end, line.len())) {
-        let code = names::find(text::part(line, 0, end), &numbers);
-        if code == 0 {
-            return Ok(false);
-        }
-        let group = code / 0x100;
-        let number = code % 0x10;
-        if group < 0x61 {
-            run::run(out, group, number, &numbers)?;
-        } else {
-            value::value(out, group, number, &numbers)?;
-        }
-        return Ok(true);
-    }
-    Ok(false)
+// A line's call; nothing where the line is bad.
+fn parse(line: &[u8]) -> Option<Line> {
+    Line::parse(str::from_utf8(line).ok()?)
 }
 
-// Whether a line is printed as it stands.
-fn is_comment(line: &[u8]) -> bool {
-    line.len() == 0 || text::byte_at(line, 0) == b'#'
+fn make(out: &impl Print, line: &Line) -> io::Result<()> {
+    match line.call {
+        Call::Elements(width, call) => elements::show(out, width, call, line),
+        Call::Value(call) => value::show(out, call),
+        Call::Run(call) => run::show(out, call, line),
+    }
 }
 
 // A line, by its number.
-fn show_line(out: &impl Print, line: &[u8], number: usize) -> io::Result<()> {
-    if is_comment(line) {
-        print::text(out, line)?;
-        return print::text(out, b"\n");
+fn show_line(out: &impl Print, number: u64, line: &[u8]) -> io::Result<()> {
+    if line.is_empty() || line.starts_with(b"#") {
+        out.write_all(line)?;
+        return out.write_all(b"\n");
     }
-    if call(out, line)? {
-        return Ok(());
+    match parse(line) {
+        Some(line) => make(out, &line),
+        None => println!(out; "bad {number}"),
     }
-    print::text(out, b"bad ")?;
-    print::decimal(out, number as u64)?;
-    print::text(out, b"\n")
 }
 
 fn show_lines(out: &impl Print, input: &[u8]) -> io::Result<()> {
-    let mut number = 1;
-    let mut from = 0;
-    for i in 0..input.len() {
-        if input[i] == b'\n' {
-            show_line(out, text::part(input, from, i), number)?;
-            number = wrapping_add_usize(number, 1);
-            from = wrapping_add_usize(i, 1);
-        }
-    }
-    if from < input.len() {
-        show_line(out, text::part(input, from, input.len()), number)?;
+    for (number, line) in (1..).zip(input.split_inclusive(|byte| *byte == b'\n')) {
+        show_line(out, number, line.strip_suffix(b"\n").unwrap_or(line))?;
     }
     Ok(())
 }
 
 // Reads until the buffer is full or the input ends; how many bytes it put at the buffer's start. An error of a read leaves the buffer as
-// long as it was, with whatever came before.
+// long as it was, with whatever came before. A loop of its own: the library's `read_exact` refuses a shorter input, and `read_to_end` needs
+// a heap. Each program has it, since no library below them does any input.
 fn read_full(input: &mut impl Read, to: &mut [u8]) -> io::Result<usize>
     ensures read { IfOk result (λ n. n ≤ length to.new) }
     ensures kept { length to.new ≡ length to.old }
@@ -104,7 +81,7 @@ fn main(rt: HostRuntime) -> io::Result<()> {
     let mut input = [0u8; INPUT + 1];
     let n = read_full(&mut rt.stdin(), &mut input)?;
     if INPUT < n {
-        return print::text(&rt, b"bad\n");
+        return println!(rt; "bad");
     }
     show_lines(&rt, &input[..n])
 }

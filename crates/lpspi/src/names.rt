@@ -1,85 +1,263 @@
-// The calls by name, in groups; each group has a match over its calls.
-use crate::{line, text};
-use std::num::wrapping_add_usize;
+// The calls by name, with their arguments.
+use crate::text::Words;
+use sequences::settings::{PcsPolarity, SamplePoint};
+use words::clock::ClockConfigs;
+use words::mode::{Mode, Pcs};
+use words::order::BitOrder;
+use words::transaction::Direction;
+use words::width::Width;
 
-// The largest argument: a choice, a mode or chip select, a byte, any word.
-fn largest(letter: u8) -> u32 {
-    match letter {
-        b'c' => 1,
-        b'm' => 3,
-        b'b' => 0xFF,
-        _ => 0xFFFF_FFFF,
+#[derive(Clone, Copy)]
+pub(crate) enum Call {
+    Elements(Width, Elements),
+    Value(Value),
+    Run(Run),
+}
+
+// Words and buffers of elements, and the commands of their frames.
+#[derive(Clone, Copy)]
+pub(crate) enum Elements {
+    Pack(BitOrder),
+    PackWords(BitOrder, usize),
+    Unpack(BitOrder, usize, u32),
+    UnpackWords(BitOrder, usize),
+    Longer,
+    Width(usize),
+    New,
+}
+
+// Commands, clocks and fields.
+#[derive(Clone, Copy)]
+pub(crate) enum Value {
+    New(u32),
+    Command(Command),
+    WithSettings(Settings),
+    FromHz(u32, u32),
+    TcrPcs(u32, u32),
+    Flags,
+}
+
+#[derive(Clone, Copy)]
+pub(crate) enum Transfer {
+    ExchangeSeparate,
+    Exchange,
+    WriteNoRead,
+    ReadNoWrite,
+}
+
+// Runs over a script.
+#[derive(Clone, Copy)]
+pub(crate) enum Run {
+    Transfer(Width, Transfer),
+    Flush,
+    SoftReset,
+    RecoverFromError,
+    Init,
+    ReadData,
+    EnqueueData(u32),
+    EnqueueTransaction(Command),
+    Status,
+    ClearStatus(u32),
+    IsEnabled,
+    SetEnable(bool),
+    Watermark(Direction),
+    SetWatermark(Direction, u8),
+    ClearFifo(Direction),
+    FifoStatus,
+    SetClockHz(u32, u32),
+    SetClockConfigs(ClockConfigs),
+    SetSamplePoint(SamplePoint),
+    SetPeripheralEnable(bool),
+    SetChipSelectPolarity(Pcs, PcsPolarity),
+}
+
+// A frame of so many bits, and what its command says besides.
+#[derive(Clone, Copy)]
+pub(crate) struct Command {
+    pub frame: u32,
+    pub order: BitOrder,
+    pub mode: Mode,
+    pub pcs: Pcs,
+}
+
+// (With the frame and the driver's part; `words` has what goes into the command.)
+#[derive(Clone, Copy)]
+pub(crate) struct Settings {
+    pub command: Command,
+    pub byte_swap: bool,
+    pub receive_mask: bool,
+    pub transmit_mask: bool,
+    pub continuous: bool,
+    pub continuing: bool,
+}
+
+// The lists that a call takes, and how wide their elements are.
+#[derive(Clone, Copy)]
+pub(crate) struct Lists {
+    pub read: Option<Width>,
+    pub write: Option<Width>,
+    // What a run has: driver, budget, log, raw and script.
+    pub run: bool,
+}
+
+impl Command {
+    fn parse(words: &mut Words) -> Option<Self> {
+        Some(Command {
+            frame: words.number()?,
+            order: words.order()?,
+            mode: words.mode()?,
+            pcs: words.pcs()?,
+        })
     }
 }
 
-// Whether the line has the arguments of a signature.
-fn has_arguments(signature: &[u8], numbers: &[u32]) -> bool {
-    let n = line::count(numbers, line::ARGUMENTS);
-    for i in 0..n {
-        let letter = text::byte_at(signature, wrapping_add_usize(i, 3));
-        if largest(letter) < line::argument(numbers, i) {
-            return false;
-        }
+impl Settings {
+    fn parse(words: &mut Words) -> Option<Self> {
+        Some(Settings {
+            command: Command::parse(words)?,
+            byte_swap: words.flag()?,
+            receive_mask: words.flag()?,
+            transmit_mask: words.flag()?,
+            continuous: words.flag()?,
+            continuing: words.flag()?,
+        })
     }
-    signature.len() == wrapping_add_usize(n, 3)
 }
 
-// Whether the line names only lists of its call: a read buffer is 1, a write buffer 2, what a run has 4.
-fn has_lists(lists: u8, numbers: &[u32]) -> bool {
-    if lists % 2 == 0 && line::has(numbers, line::READ) {
-        return false;
-    }
-    if lists / 2 % 2 == 0 && line::has(numbers, line::WRITE) {
-        return false;
-    }
-    lists / 4 % 2 == 1 || !line::has_run(numbers)
+fn clock_configs(words: &mut Words) -> Option<ClockConfigs> {
+    Some(ClockConfigs {
+        sckpcs: words.byte()?,
+        pcssck: words.byte()?,
+        dbt: words.byte()?,
+        sckdiv: words.byte()?,
+    })
 }
 
-// Whether the elements of the buffers have the width of the group. Words on the other side of a packing are no elements.
-fn elements_fit(group: u8, call: u8, numbers: &[u32]) -> bool {
-    let most = match group {
-        b'0' | b'a' => 0xFF,
-        b'1' | b'b' => 0xFFFF,
-        _ => 0xFFFF_FFFF,
+// A name without its width, and the width: `pack` of `pack_u8`, `new` of `new_u8s`.
+fn split_width(name: &str) -> Option<(&str, Width)> {
+    let (stem, end) = name.rsplit_once('_')?;
+    let width = if stem == "new" {
+        end.strip_suffix('s')?
+    } else {
+        end
     };
-    let packing = b'a' <= group;
-    if packing && call == b'1' {
-        return line::fits(numbers, line::WRITE, most);
+    match width {
+        "u8" => Some((stem, Width::U8)),
+        "u16" => Some((stem, Width::U16)),
+        "u32" => Some((stem, Width::U32)),
+        _ => None,
     }
-    if packing && call == b'3' {
-        return line::fits(numbers, line::READ, most);
-    }
-    line::fits(numbers, line::READ, most) && line::fits(numbers, line::WRITE, most)
 }
 
-// The group of a line's call and its number there, as letters; 0 where the line is bad. Behind each name stand these two, the lists, and a
-// letter for each argument. Groups: 0 to 2 transfers of bytes, halves and words, 3 to 7 other runs; a to c words by width, d the rest.
-pub(crate) fn find(name: &[u8], numbers: &[u32]) -> u32 {
-    let signature = text::behind(
-        b"exchange_separate_u8 007 exchange_u8 015 write_no_read_u8 026 read_no_write_u8 035 \
-        exchange_separate_u16 107 exchange_u16 115 write_no_read_u16 126 read_no_write_u16 135 \
-        exchange_separate_u32 207 exchange_u32 215 write_no_read_u32 226 read_no_write_u32 235 \
-        flush 304 soft_reset 314 recover_from_error 324 init 334 \
-        read_data 404 enqueue_data 414w enqueue_transaction 424wcmm \
-        status 504 clear_status 514w is_enabled 524 set_enable 534c \
-        watermark 604c set_watermark 614cb clear_fifo 624c fifo_status 634 \
-        set_clock_hz 704ww set_clock_configs 714bbbb set_sample_point 724c \
-        set_peripheral_enable 734c set_chip_select_polarity 744mc \
-        pack_u8 a02c pack_words_u8 a13cw unpack_u8 a21cww unpack_words_u8 a33cw \
-        longer_u8 a43 new_u8s a52 width_u8 a60w \
-        pack_u16 b02c pack_words_u16 b13cw unpack_u16 b21cww unpack_words_u16 b33cw \
-        longer_u16 b43 new_u16s b52 width_u16 b60w \
-        pack_u32 c02c pack_words_u32 c13cw unpack_u32 c21cww unpack_words_u32 c33cw \
-        longer_u32 c43 new_u32s c52 width_u32 c60w \
-        new d00w command d10wcmm with_settings d20wcmmccccc from_hz d30ww tcr_pcs d40ww flags d50 ",
-        name,
-    );
-    if has_arguments(signature, numbers) && has_lists(text::byte_at(signature, 2), numbers) {
-        let group = text::byte_at(signature, 0);
-        let call = text::byte_at(signature, 1);
-        if elements_fit(group, call, numbers) {
-            return group as u32 * 0x100 + call as u32;
+impl Transfer {
+    fn named(stem: &str) -> Option<Self> {
+        match stem {
+            "exchange_separate" => Some(Transfer::ExchangeSeparate),
+            "exchange" => Some(Transfer::Exchange),
+            "write_no_read" => Some(Transfer::WriteNoRead),
+            "read_no_write" => Some(Transfer::ReadNoWrite),
+            _ => None,
         }
     }
-    0
+}
+
+impl Elements {
+    fn parse(stem: &str, words: &mut Words) -> Option<Self> {
+        Some(match stem {
+            "pack" => Elements::Pack(words.order()?),
+            "pack_words" => Elements::PackWords(words.order()?, words.size()?),
+            "unpack" => Elements::Unpack(words.order()?, words.size()?, words.number()?),
+            "unpack_words" => Elements::UnpackWords(words.order()?, words.size()?),
+            "longer" => Elements::Longer,
+            "new" => Elements::New,
+            "width" => Elements::Width(words.size()?),
+            _ => return None,
+        })
+    }
+}
+
+impl Run {
+    fn parse(name: &str, words: &mut Words) -> Option<Self> {
+        Some(match name {
+            "flush" => Run::Flush,
+            "soft_reset" => Run::SoftReset,
+            "recover_from_error" => Run::RecoverFromError,
+            "init" => Run::Init,
+            "read_data" => Run::ReadData,
+            "enqueue_data" => Run::EnqueueData(words.number()?),
+            "enqueue_transaction" => Run::EnqueueTransaction(Command::parse(words)?),
+            "status" => Run::Status,
+            "clear_status" => Run::ClearStatus(words.number()?),
+            "is_enabled" => Run::IsEnabled,
+            "set_enable" => Run::SetEnable(words.flag()?),
+            "watermark" => Run::Watermark(words.direction()?),
+            "set_watermark" => Run::SetWatermark(words.direction()?, words.byte()?),
+            "clear_fifo" => Run::ClearFifo(words.direction()?),
+            "fifo_status" => Run::FifoStatus,
+            "set_clock_hz" => Run::SetClockHz(words.number()?, words.number()?),
+            "set_clock_configs" => Run::SetClockConfigs(clock_configs(words)?),
+            "set_sample_point" => Run::SetSamplePoint(words.sample_point()?),
+            "set_peripheral_enable" => Run::SetPeripheralEnable(words.flag()?),
+            "set_chip_select_polarity" => {
+                Run::SetChipSelectPolarity(words.pcs()?, words.polarity()?)
+            }
+            _ => return None,
+        })
+    }
+}
+
+impl Value {
+    fn parse(name: &str, words: &mut Words) -> Option<Self> {
+        Some(match name {
+            "new" => Value::New(words.number()?),
+            "command" => Value::Command(Command::parse(words)?),
+            "with_settings" => Value::WithSettings(Settings::parse(words)?),
+            "from_hz" => Value::FromHz(words.number()?, words.number()?),
+            "tcr_pcs" => Value::TcrPcs(words.number()?, words.number()?),
+            "flags" => Value::Flags,
+            _ => return None,
+        })
+    }
+}
+
+impl Call {
+    // The call of a name, with the arguments that stand next; nothing where there is no such call, or they are not its arguments.
+    pub(crate) fn parse(name: &str, words: &mut Words) -> Option<Self> {
+        if let Some((stem, width)) = split_width(name) {
+            return match Transfer::named(stem) {
+                Some(call) => Some(Call::Run(Run::Transfer(width, call))),
+                None => Some(Call::Elements(width, Elements::parse(stem, words)?)),
+            };
+        }
+        match Run::parse(name, words) {
+            Some(call) => Some(Call::Run(call)),
+            None => Some(Call::Value(Value::parse(name, words)?)),
+        }
+    }
+
+    // The lists that it takes.
+    pub(crate) fn lists(self) -> Lists {
+        let (read, write) = match self {
+            Call::Run(Run::Transfer(width, call)) => match call {
+                Transfer::ExchangeSeparate => (Some(width), Some(width)),
+                Transfer::Exchange | Transfer::ReadNoWrite => (Some(width), None),
+                Transfer::WriteNoRead => (None, Some(width)),
+            },
+            // Words on the other side of a packing are no elements.
+            Call::Elements(width, call) => match call {
+                Elements::Pack(..) | Elements::New => (None, Some(width)),
+                Elements::PackWords(..) => (Some(Width::U32), Some(width)),
+                Elements::Unpack(..) => (Some(width), None),
+                Elements::UnpackWords(..) => (Some(width), Some(Width::U32)),
+                Elements::Longer => (Some(width), Some(width)),
+                Elements::Width(..) => (None, None),
+            },
+            Call::Value(..) | Call::Run(..) => (None, None),
+        };
+        Lists {
+            read,
+            write,
+            run: matches!(self, Call::Run(_)),
+        }
+    }
 }

@@ -1,160 +1,144 @@
 // What a call answers, and what a run leaves: accesses and value, then the number of the result, accesses made, answers used, driver value.
 use crate::print;
-use calls::results::{Data, DataResult, EnabledResult, FifoResult, LevelResult, StatusResult};
+use calls::results::{Answered, FifoStatus};
 use runs::result::RunResult;
-use sequences::driver::Lpspi;
+use sequences::access::{RunError, ending_number};
+use sequences::status::Status;
 use std::io;
-use words::clock::ClockResult;
-use words::mode::Mode;
+use words::clock::ZeroClock;
 use words::order::BitOrder;
-use words::pack::PackResult;
-use words::transaction::{Direction, TransactionResult};
-use words::unpack::UnpackResult;
-use words::width::Width;
+use words::pack::TooManyElements;
+use words::transaction::{Direction, LpspiError, Transaction};
 
-pub(crate) fn packed(out: &impl Print, r: PackResult) -> io::Result<()> {
-    let PackResult::Word(w) = r else {
-        return print::refused(out, 8);
-    };
-    print::word_line(out, w)
+// What is printed in lines of its own. (Not Display: most of the types are of other crates.)
+pub(crate) trait Answer: Copy {
+    fn show(self, out: &impl Print) -> io::Result<()>;
 }
 
-pub(crate) fn unpacked(out: &impl Print, r: UnpackResult) -> io::Result<()> {
-    match r {
-        UnpackResult::Done => Ok(()),
-        UnpackResult::TooMany => print::refused(out, 8),
+// A value, or its refusal.
+impl<T: Answer, E: Answer> Answer for Result<T, E> {
+    fn show(self, out: &impl Print) -> io::Result<()> {
+        match self {
+            Ok(value) => value.show(out),
+            Err(refusal) => refusal.show(out),
+        }
     }
 }
 
-pub(crate) fn command(out: &impl Print, r: TransactionResult) -> io::Result<()> {
-    let TransactionResult::Ok(t) = r else {
-        return print::refused(out, 1);
-    };
-    print::word_line(out, t.as_raw())
-}
-
-// The clock's word, and the frequency of SCK in Hz.
-pub(crate) fn clock(out: &impl Print, source: u32, r: ClockResult) -> io::Result<()> {
-    let ClockResult::Ok(configs) = r else {
-        return print::refused(out, 6);
-    };
-    print::eight_digits(out, configs.as_raw())?;
-    print::next_decimal(out, source as u64 / (configs.sckdiv as u64 + 2))?;
-    print::text(out, b"\n")
-}
-
-// Elements a word, the dummy, and the words of so many elements.
-pub(crate) fn width(out: &impl Print, width: Width, elements: usize) -> io::Result<()> {
-    print::decimal(out, width.per_word() as u64)?;
-    print::text(out, b" ")?;
-    print::eight_digits(out, width.dummy())?;
-    print::next_decimal(out, width.word_count(elements) as u64)?;
-    print::text(out, b"\n")
-}
-
-fn order(out: &impl Print, order: BitOrder) -> io::Result<()> {
-    match order {
-        BitOrder::Msb => print::text(out, b" driver M"),
-        BitOrder::Lsb => print::text(out, b" driver L"),
+// Document 01's number.
+impl Answer for RunError {
+    fn show(self, out: &impl Print) -> io::Result<()> {
+        println!(out; "{}", self.number())
     }
 }
 
-fn mode(out: &impl Print, mode: Mode) -> io::Result<()> {
-    let polarity = mode.polarity;
-    let phase = mode.phase;
-    print::next_decimal(out, (polarity.cpol() % 2 * 2 + phase.cpha() % 2) as u64)
+impl Answer for LpspiError {
+    fn show(self, out: &impl Print) -> io::Result<()> {
+        RunError::from(self).show(out)
+    }
 }
 
-// The driver value, as a line names it.
-fn driver(out: &impl Print, driver: Lpspi) -> io::Result<()> {
-    order(out, driver.bit_order())?;
-    mode(out, driver.mode())?;
-    print::next_decimal(out, driver.pcs().number() as u64)?;
-    let cache = driver.ccr_cache();
-    print::text(out, b" 0x")?;
-    print::two_digits(out, cache.dbt as u32)?;
-    print::text(out, b" 0x")?;
-    print::two_digits(out, cache.sckdiv as u32)?;
-    print::text(out, b"\n")
+impl Answer for ZeroClock {
+    fn show(self, out: &impl Print) -> io::Result<()> {
+        RunError::ZeroClock.show(out)
+    }
 }
 
-// The last line of a run.
-pub(crate) fn show(out: &impl Print, r: RunResult) -> io::Result<()> {
-    let ending = r.ending;
-    print::decimal(out, ending.number() as u64)?;
-    print::next_decimal(out, r.accesses as u64)?;
-    print::next_decimal(out, r.answers as u64)?;
-    driver(out, r.driver)
+impl Answer for TooManyElements {
+    fn show(self, out: &impl Print) -> io::Result<()> {
+        println!(out; "8")
+    }
 }
 
+// Of what is left in a buffer alone.
+impl Answer for () {
+    fn show(self, _out: &impl Print) -> io::Result<()> {
+        Ok(())
+    }
+}
+
+// A FIFO word.
+impl Answer for u32 {
+    fn show(self, out: &impl Print) -> io::Result<()> {
+        println!(out; "{self:08X}")
+    }
+}
+
+impl Answer for Transaction {
+    fn show(self, out: &impl Print) -> io::Result<()> {
+        self.as_raw().show(out)
+    }
+}
+
+// A received word.
+impl Answer for Option<u32> {
+    fn show(self, out: &impl Print) -> io::Result<()> {
+        match self {
+            Some(word) => println!(out; "word {word:08X}"),
+            None => println!(out; "no word"),
+        }
+    }
+}
+
+// A watermark.
+impl Answer for u8 {
+    fn show(self, out: &impl Print) -> io::Result<()> {
+        println!(out; "value {self}")
+    }
+}
+
+// Whether the peripheral is enabled.
+impl Answer for bool {
+    fn show(self, out: &impl Print) -> io::Result<()> {
+        println!(out; "{}", if self { "enabled" } else { "not enabled" })
+    }
+}
+
+impl Answer for Status {
+    fn show(self, out: &impl Print) -> io::Result<()> {
+        println!(out; "status {:08X}", self.bits())
+    }
+}
+
+impl Answer for FifoStatus {
+    fn show(self, out: &impl Print) -> io::Result<()> {
+        let (rxcount, txcount, rxcap, txcap) = (self.rxcount, self.txcount, self.rxcap, self.txcap);
+        println!(out; "fifo {rxcount} {txcount} {rxcap} {txcap}")?;
+        for (name, direction) in [("Tx", Direction::Tx), ("Rx", Direction::Rx)] {
+            let not = if self.is_full(direction) { "" } else { "not " };
+            println!(out; "{name} {not}full")?;
+        }
+        Ok(())
+    }
+}
+
+// The last line of a run, with the driver value as a line names it.
+impl Answer for RunResult {
+    fn show(self, out: &impl Print) -> io::Result<()> {
+        let (number, made, used) = (ending_number(self.ending), self.accesses, self.answers);
+        let order = match self.driver.bit_order() {
+            BitOrder::Msb => 'M',
+            BitOrder::Lsb => 'L',
+        };
+        let mode = self.driver.mode();
+        let mode = mode.polarity.cpol() * 2 + mode.phase.cpha();
+        let (pcs, cache) = (self.driver.pcs().number(), self.driver.ccr_cache());
+        let (dbt, sckdiv) = (cache.dbt, cache.sckdiv);
+        println!(out;
+            "{number} {made} {used} driver {order} {mode} {pcs} 0x{dbt:02X} 0x{sckdiv:02X}"
+        )
+    }
+}
+
+// What a run leaves that has no value.
 pub(crate) fn plain(out: &impl Print, r: RunResult, log: &[u32]) -> io::Result<()> {
     print::accesses(out, log, r.accesses)?;
-    show(out, r)
+    r.show(out)
 }
 
-pub(crate) fn level(out: &impl Print, r: LevelResult, log: &[u32]) -> io::Result<()> {
-    let run = r.result;
-    print::accesses(out, log, run.accesses)?;
-    print::text(out, b"value")?;
-    print::next_decimal(out, r.level as u64)?;
-    print::text(out, b"\n")?;
-    show(out, run)
-}
-
-pub(crate) fn status(out: &impl Print, r: StatusResult, log: &[u32]) -> io::Result<()> {
-    let run = r.result;
-    print::accesses(out, log, run.accesses)?;
-    let status = r.status;
-    print::named_word(out, b"status ", status.bits())?;
-    show(out, run)
-}
-
-pub(crate) fn enabled(out: &impl Print, r: EnabledResult, log: &[u32]) -> io::Result<()> {
-    let run = r.result;
-    print::accesses(out, log, run.accesses)?;
-    if r.enabled {
-        print::text(out, b"enabled\n")?;
-    } else {
-        print::text(out, b"not enabled\n")?;
-    }
-    show(out, run)
-}
-
-fn full(out: &impl Print, name: &[u8], is_full: bool) -> io::Result<()> {
-    print::text(out, name)?;
-    if is_full {
-        print::text(out, b" full\n")
-    } else {
-        print::text(out, b" not full\n")
-    }
-}
-
-pub(crate) fn fifo(out: &impl Print, r: FifoResult, log: &[u32]) -> io::Result<()> {
-    let run = r.result;
-    print::accesses(out, log, run.accesses)?;
-    let fifo = r.fifo;
-    print::text(out, b"fifo")?;
-    print::next_decimal(out, fifo.rxcount as u64)?;
-    print::next_decimal(out, fifo.txcount as u64)?;
-    print::next_decimal(out, fifo.rxcap as u64)?;
-    print::next_decimal(out, fifo.txcap as u64)?;
-    print::text(out, b"\n")?;
-    full(out, b"Tx", fifo.is_full(Direction::Tx))?;
-    full(out, b"Rx", fifo.is_full(Direction::Rx))?;
-    show(out, run)
-}
-
-fn word(out: &impl Print, data: Data) -> io::Result<()> {
-    let Data::Word(w) = data else {
-        return print::text(out, b"no word\n");
-    };
-    print::named_word(out, b"word ", w)
-}
-
-pub(crate) fn data(out: &impl Print, r: DataResult, log: &[u32]) -> io::Result<()> {
-    let run = r.result;
-    print::accesses(out, log, run.accesses)?;
-    let data = r.data;
-    word(out, data)?;
-    show(out, run)
+// What a run leaves, and its value.
+pub(crate) fn answered<T: Answer>(out: &impl Print, r: Answered<T>, log: &[u32]) -> io::Result<()> {
+    print::accesses(out, log, r.result.accesses)?;
+    r.value.show(out)?;
+    r.result.show(out)
 }

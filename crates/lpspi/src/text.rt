@@ -1,116 +1,108 @@
-// Words of a line, and the numbers that they stand for.
-use std::num::wrapping_add_usize;
+// The words of a line, and what they stand for.
+ghost use Rattle.std.specs.Prelude.{◌≤◌};
 
-// What no word stands for.
-pub(crate) const NO_NUMBER: u64 = 0x1_0000_0000;
+use sequences::settings::{PcsPolarity, SamplePoint};
+use words::mode::{MODE_0, MODE_1, MODE_2, MODE_3, Mode, Pcs};
+use words::order::BitOrder;
+use words::transaction::Direction;
 
-// The bytes of a line from one place to another; none where there are no such places.
-pub(crate) fn part<'a>(line: &'a [u8], from: usize, to: usize) -> &'a [u8] {
-    if to <= line.len() {
-        if from <= to {
-            return &line[from..to];
+// The words that are left of a line. One or more spaces separate them.
+#[derive(Clone, Copy)]
+pub(crate) struct Words<'a>(&'a str);
+
+// A number of 32 bits, without a sign.
+fn number(digits: &str, radix: u32) -> Option<u32>
+    requires { (2 ≤ radix) × (radix ≤ 36) }
+{
+    if digits.starts_with('+') {
+        return None;
+    }
+    u32::from_str_radix(digits, radix).ok()
+}
+
+// What a word stands for outside of buffers and script.
+fn argument(word: &str) -> Option<u32> {
+    match word {
+        "M" | "Tx" | "off" | "low" | "Edge" => Some(0),
+        "L" | "Rx" | "on" | "high" | "DelayedEdge" => Some(1),
+        _ => match word.strip_prefix("0x") {
+            Some(digits) => number(digits, 16),
+            None => number(word, 10),
+        },
+    }
+}
+
+impl<'a> Words<'a> {
+    pub(crate) fn new(line: &'a str) -> Self {
+        Words(line)
+    }
+
+    // The next word, and those behind it.
+    fn split_first(self) -> Option<(&'a str, Self)> {
+        let rest = self.0.trim_start_matches(' ');
+        if rest.is_empty() {
+            return None;
         }
+        let (word, rest) = rest.split_once(' ').unwrap_or((rest, ""));
+        Some((word, Words(rest)))
     }
-    &line[..0]
-}
 
-pub(crate) fn byte_at(line: &[u8], i: usize) -> u8 {
-    if i < line.len() { line[i] } else { 0 }
-}
+    pub(crate) fn next(&mut self) -> Option<&'a str> {
+        let (word, rest) = self.split_first()?;
+        *self = rest;
+        Some(word)
+    }
 
-pub(crate) fn same(a: &[u8], b: &[u8]) -> bool {
-    if a.len() != b.len() {
-        return false;
+    // The next word as hexadecimal digits; one that is no such number is left.
+    pub(crate) fn digits(&mut self) -> Option<u32> {
+        let (word, rest) = self.split_first()?;
+        let number = number(word, 16)?;
+        *self = rest;
+        Some(number)
     }
-    for i in 0..a.len() {
-        if a[i] != byte_at(b, i) {
-            return false;
-        }
-    }
-    true
-}
 
-// Where the first word of a line ends.
-pub(crate) fn word_end(line: &[u8]) -> usize {
-    for i in 0..line.len() {
-        if line[i] == b' ' {
-            return i;
-        }
+    pub(crate) fn number(&mut self) -> Option<u32> {
+        argument(self.next()?)
     }
-    line.len()
-}
 
-// A digit's value, in either case; 16 for what is none.
-fn digit(byte: u8) -> u64 {
-    match byte {
-        b'0'..=b'9' => (byte - b'0') as u64,
-        b'A'..=b'F' => (byte - 55) as u64,
-        b'a'..=b'f' => (byte - 87) as u64,
-        _ => 16,
+    pub(crate) fn size(&mut self) -> Option<usize> {
+        Some(self.number()? as usize)
     }
-}
 
-// A number with one more digit.
-fn append(n: u64, digit: u64, hexadecimal: bool) -> u64 {
-    if hexadecimal {
-        return n % NO_NUMBER * 16 + digit % 16;
+    pub(crate) fn byte(&mut self) -> Option<u8> {
+        u8::try_from(self.number()?).ok()
     }
-    n % NO_NUMBER * 10 + digit % 10
-}
 
-// A number of 32 bits, in hexadecimal or in decimal digits.
-fn number(word: &[u8], hexadecimal: bool) -> u64 {
-    if word.len() == 0 {
-        return NO_NUMBER;
+    // One of a few things, by its number among them.
+    fn one_of<T: Copy, const N: usize>(&mut self, things: [T; N]) -> Option<T> {
+        things.get(self.number()? as usize).copied()
     }
-    let base = if hexadecimal { 16 } else { 10 };
-    let mut n = 0u64;
-    for i in 0..word.len() {
-        let d = digit(word[i]);
-        if base <= d {
-            return NO_NUMBER;
-        }
-        n = append(n, d, hexadecimal);
-        if NO_NUMBER <= n {
-            return NO_NUMBER;
-        }
-    }
-    n
-}
 
-pub(crate) fn hexadecimal(word: &[u8]) -> u64 {
-    number(word, true)
-}
+    pub(crate) fn flag(&mut self) -> Option<bool> {
+        self.one_of([false, true])
+    }
 
-// What stands behind a word in a table of pairs; nothing where the word is not there.
-pub(crate) fn behind<'a>(table: &'a [u8], word: &[u8]) -> &'a [u8] {
-    let mut from = 0;
-    let mut found = false;
-    let mut first = true;
-    for i in 0..table.len() {
-        if table[i] == b' ' {
-            if found {
-                return part(table, from, i);
-            }
-            found = first && same(part(table, from, i), word);
-            first = !first;
-            from = wrapping_add_usize(i, 1);
-        }
+    pub(crate) fn order(&mut self) -> Option<BitOrder> {
+        self.one_of([BitOrder::Msb, BitOrder::Lsb])
     }
-    part(table, 0, 0)
-}
 
-// A word for 0 or 1, `0x` and hexadecimal digits, or decimal ones.
-pub(crate) fn argument(word: &[u8]) -> u64 {
-    let choice = behind(
-        b"M 0 Tx 0 off 0 low 0 Edge 0 L 1 Rx 1 on 1 high 1 DelayedEdge 1 ",
-        word,
-    );
-    if choice.len() == 1 {
-        return number(choice, false);
+    pub(crate) fn mode(&mut self) -> Option<Mode> {
+        self.one_of([MODE_0, MODE_1, MODE_2, MODE_3])
     }
-    if byte_at(word, 0) == b'0' && byte_at(word, 1) == b'x' {
-        return hexadecimal(part(word, 2, word.len()));
+
+    pub(crate) fn pcs(&mut self) -> Option<Pcs> {
+        self.one_of([Pcs::Pcs0, Pcs::Pcs1, Pcs::Pcs2, Pcs::Pcs3])
     }
-    number(word, false)
+
+    pub(crate) fn direction(&mut self) -> Option<Direction> {
+        self.one_of([Direction::Tx, Direction::Rx])
+    }
+
+    pub(crate) fn sample_point(&mut self) -> Option<SamplePoint> {
+        self.one_of([SamplePoint::Edge, SamplePoint::DelayedEdge])
+    }
+
+    pub(crate) fn polarity(&mut self) -> Option<PcsPolarity> {
+        self.one_of([PcsPolarity::ActiveLow, PcsPolarity::ActiveHigh])
+    }
 }

@@ -1,96 +1,100 @@
-// Calls that make no access: words, commands, clocks, fields.
-use crate::{line, print, result, width_u8, width_u16, width_u32};
+// Calls that make no access and take no list: commands, clocks, fields.
+use crate::names::{Command, Settings, Value};
+use crate::result::Answer;
 use manual::{Field, Register, Tcr};
 use sequences::status::Status;
 use std::io;
 use words::clock::ClockConfigs;
-use words::transaction::{LpspiError, Transaction, TransactionResult};
+use words::transaction;
+use words::transaction::{LpspiError, Transaction};
 
 // A frame of so many bits; more than 16 bits can say are refused as well.
-fn frame(bits: u32) -> TransactionResult {
-    if 0xFFFF < bits {
-        return TransactionResult::Err(LpspiError::FrameSize);
+fn frame(bits: u32) -> Result<Transaction, LpspiError> {
+    let Ok(bits) = u16::try_from(bits) else {
+        return Err(LpspiError::FrameSize);
+    };
+    Transaction::new(bits)
+}
+
+impl Command {
+    pub(crate) fn transaction(self) -> Result<Transaction, LpspiError> {
+        let command = frame(self.frame)?;
+        Ok(
+            command
+                .with_bit_order(self.order)
+                .with_mode(self.mode)
+                .with_pcs(self.pcs),
+        )
     }
-    Transaction::new(bits as u16)
 }
 
-// The command of a frame size, an order, a mode and a chip select.
-pub(crate) fn command(numbers: &[u32]) -> TransactionResult {
-    let TransactionResult::Ok(t) = frame(line::argument(numbers, 0)) else {
-        return TransactionResult::Err(LpspiError::FrameSize);
-    };
-    let order = line::order(line::argument(numbers, 1));
-    let mode = line::mode(line::argument(numbers, 2));
-    let pcs = line::pcs(line::argument(numbers, 3));
-    TransactionResult::Ok(t.with_bit_order(order).with_mode(mode).with_pcs(pcs))
-}
-
-fn flag(numbers: &[u32], i: usize) -> bool {
-    line::argument(numbers, i) == 1
-}
-
-// The same with byte swap, both masks, continuous and continuing, by the setters `set_..`.
-fn with_settings(numbers: &[u32]) -> TransactionResult {
-    let TransactionResult::Ok(t) = frame(line::argument(numbers, 0)) else {
-        return TransactionResult::Err(LpspiError::FrameSize);
-    };
-    let order = line::order(line::argument(numbers, 1));
-    let mode = line::mode(line::argument(numbers, 2));
-    let pcs = line::pcs(line::argument(numbers, 3));
-    TransactionResult::Ok(t.with_settings(
-        flag(numbers, 4),
-        order,
-        flag(numbers, 5),
-        flag(numbers, 6),
-        flag(numbers, 7),
-        flag(numbers, 8),
-        mode,
-        pcs,
-    ))
+impl Settings {
+    // By the setters `set_..`.
+    fn transaction(self) -> Result<Transaction, LpspiError> {
+        let command = self.command;
+        Ok(frame(command.frame)?.with_settings(transaction::Settings {
+            byte_swap: self.byte_swap,
+            order: command.order,
+            receive_mask: self.receive_mask,
+            transmit_mask: self.transmit_mask,
+            continuous: self.continuous,
+            continuing: self.continuing,
+            mode: command.mode,
+            pcs: command.pcs,
+        }))
+    }
 }
 
 // Where TCR is, its PCS in a word, and the word with another.
 fn show_pcs(out: &impl Print, word: u32, pcs: u32) -> io::Result<()> {
-    print::two_digits(out, Register::TCR.offset())?;
-    print::next_decimal(out, Field::Tcr(Tcr::PCS).read(word) as u64)?;
-    print::text(out, b" ")?;
-    print::word_line(out, Field::Tcr(Tcr::PCS).set(pcs, word))
+    let field = Field::Tcr(Tcr::PCS);
+    let (at, read, set) = (
+        Register::TCR.offset(),
+        field.read(word),
+        field.set(pcs, word),
+    );
+    println!(out; "{at:02X} {read} {set:08X}")
 }
 
 // The flags of SR.
 fn show_flags(out: &impl Print) -> io::Result<()> {
-    print::named_word(out, b"BUSY ", Status::BUSY.bits())?;
-    print::named_word(out, b"DATA_MATCH ", Status::DATA_MATCH.bits())?;
-    print::named_word(out, b"RECEIVE_ERROR ", Status::RECEIVE_ERROR.bits())?;
-    print::named_word(out, b"TRANSMIT_ERROR ", Status::TRANSMIT_ERROR.bits())?;
-    print::named_word(out, b"TRANSFER_COMPLETE ", Status::TRANSFER_COMPLETE.bits())?;
-    print::named_word(out, b"FRAME_COMPLETE ", Status::FRAME_COMPLETE.bits())?;
-    print::named_word(out, b"WORD_COMPLETE ", Status::WORD_COMPLETE.bits())?;
-    print::named_word(out, b"RECEIVE_DATA ", Status::RECEIVE_DATA.bits())?;
-    print::named_word(out, b"TRANSMIT_DATA ", Status::TRANSMIT_DATA.bits())?;
-    let both = Status::TRANSMIT_ERROR.union(Status::RECEIVE_ERROR);
-    print::named_word(out, b"both errors ", both.bits())
-}
-
-// Commands, clocks and fields, by their number among these.
-fn other(out: &impl Print, call: u32, numbers: &[u32]) -> io::Result<()> {
-    let first = line::argument(numbers, 0);
-    let second = line::argument(numbers, 1);
-    match call {
-        0 => result::command(out, frame(first)),
-        1 => result::command(out, command(numbers)),
-        2 => result::command(out, with_settings(numbers)),
-        3 => result::clock(out, first, ClockConfigs::from_hz(first, second)),
-        4 => show_pcs(out, first, second),
-        _ => show_flags(out),
+    let flags = [
+        ("BUSY", Status::BUSY),
+        ("DATA_MATCH", Status::DATA_MATCH),
+        ("RECEIVE_ERROR", Status::RECEIVE_ERROR),
+        ("TRANSMIT_ERROR", Status::TRANSMIT_ERROR),
+        ("TRANSFER_COMPLETE", Status::TRANSFER_COMPLETE),
+        ("FRAME_COMPLETE", Status::FRAME_COMPLETE),
+        ("WORD_COMPLETE", Status::WORD_COMPLETE),
+        ("RECEIVE_DATA", Status::RECEIVE_DATA),
+        ("TRANSMIT_DATA", Status::TRANSMIT_DATA),
+        (
+            "both errors",
+            Status::TRANSMIT_ERROR.union(Status::RECEIVE_ERROR),
+        ),
+    ];
+    for (name, flag) in flags {
+        println!(out; "{name} {:08X}", flag.bits())?;
     }
+    Ok(())
 }
 
-pub(crate) fn value(out: &impl Print, group: u32, call: u32, numbers: &[u32]) -> io::Result<()> {
-    match group {
-        0x61 => width_u8::value(out, call, numbers),
-        0x62 => width_u16::value(out, call, numbers),
-        0x63 => width_u32::value(out, call, numbers),
-        _ => other(out, call, numbers),
+// The clock's word, and the frequency of SCK in Hz.
+fn show_clock(out: &impl Print, source: u32, configs: ClockConfigs) -> io::Result<()> {
+    let (word, divider) = (configs.as_raw(), u32::from(configs.sckdiv) + 2);
+    println!(out; "{word:08X} {}", source / divider)
+}
+
+pub(crate) fn show(out: &impl Print, call: Value) -> io::Result<()> {
+    match call {
+        Value::New(bits) => frame(bits).show(out),
+        Value::Command(command) => command.transaction().show(out),
+        Value::WithSettings(settings) => settings.transaction().show(out),
+        Value::FromHz(source, clock) => match ClockConfigs::from_hz(source, clock) {
+            Ok(configs) => show_clock(out, source, configs),
+            Err(refusal) => refusal.show(out),
+        },
+        Value::TcrPcs(word, pcs) => show_pcs(out, word, pcs),
+        Value::Flags => show_flags(out),
     }
 }

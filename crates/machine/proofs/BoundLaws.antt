@@ -1,23 +1,23 @@
 -- The bounds in `counted`, in `recovery_move` and, in polls, in `depth_of` are idle: whatever the registers answer, a transfer never sends or
 -- receives a word past its count, its recovery never goes past the last of its moves, and a count is compared with 2^exponent.
 -- Assumes nothing.
-use Prim.Native.Nat.{ℕ, zero, suc, ◌+◌, ◌^◌, ◌<◌}
+use Prim.Native.Nat.{ℕ, ◌+◌, ◌^◌, ◌<◌}
 use mathlib.Core.Bool.{Bool, true, false, cond}
 use mathlib.Core.List.{List, [], ◌∷◌}
 use mathlib.Core.Path.{◌≡◌, refl, subst}
 use native.Mathlib.Omega.{arith}
 use lib.Dec.{ltb, leb}
-use lib.ListN.{length, get_or}
 use borrow.Author.Tests.{ltb-true, lt-ltb, leb-false}
 use Rattle.words.specs.declared.transaction.Direction.{Direction}
 use Rattle.words.specs.declared.transaction.Direction.TheVariants.{Tx, Rx}
 use Rattle.sequences.specs.declared.driver.Lpspi.{Lpspi}
-use Rattle.sequences.specs.declared.sequence.Move.{Move}
 use Rattle.sequences.specs.declared.sequence.Sequence.{Sequence}
 use Rattle.sequences.specs.Sequence.{exponent_of, too_deep, depth_of, move_at}
 use Rattle.sequences.specs.Recovery.{recovery, recovery_move, recovery_after}
 use Rattle.words.specs.declared.transaction.LpspiError.TheVariants.{Fifo}
-use Rattle.sequences.specs.declared.access.Ending.TheVariants.{Ok, Err}
+use Rattle.std.specs.Prelude.{Ok, Err}
+use Rattle.std.proofs.lemmas.List.{get_or_default}
+use Rattle.sequences.specs.declared.access.RunError.TheVariants.{Driver}
 use Rattle.sequences.proofs.DepthLaws.{fits, true_depth}
 use Rattle.machine.specs.declared.poll.Poll.{Poll}
 use Rattle.machine.specs.declared.poll.Poll.TheVariants.{Status, Sizes, Counts}
@@ -76,7 +76,7 @@ send_turn_lem : (w : Work) (r : Sequence) → r.place < 27 → Within (send_turn
 send_turn_lem w r l = by_tests (ltb w.sent w.send) (ltb w.received w.receive) refl refl
   where
     by_tests : (b c : Bool) → ltb w.sent w.send ≡ b → ltb w.received w.receive ≡ c
-        → Within (cond b (Sending Status) (cond c (Receiving Status) (Ended Ok))) w r
+        → Within (cond b (Sending Status) (cond c (Receiving Status) (Ended (Ok tt)))) w r
     by_tests true c e f = (ltb-true w.sent w.send e, l, tt)
     by_tests false true e f = (ltb-true w.received w.receive f, l)
     by_tests false false e f = tt
@@ -85,7 +85,7 @@ receive_turn_lem : (w : Work) (r : Sequence) → r.place < 27 → Within (receiv
 receive_turn_lem w r l = by_tests (ltb w.received w.receive) (ltb w.sent w.send) refl refl
   where
     by_tests : (b c : Bool) → ltb w.received w.receive ≡ b → ltb w.sent w.send ≡ c
-        → Within (cond b (Receiving Status) (cond c (Sending Status) (Ended Ok))) w r
+        → Within (cond b (Receiving Status) (cond c (Sending Status) (Ended (Ok tt)))) w r
     by_tests true c e f = (ltb-true w.received w.receive e, l)
     by_tests false true e f = (ltb-true w.sent w.send f, l, tt)
     by_tests false false e f = tt
@@ -114,7 +114,7 @@ receiving_by_lem Unready w r s l = send_turn_lem w r l
 after_recovery_lem : (d : Direction) (w : Work) (r : Sequence) → Within (after_recovery d r) w r
 after_recovery_lem d w r = by_test (leb 27 r.place) refl
   where
-    by_test : (b : Bool) → leb 27 r.place ≡ b → Within (cond b (Ended (Err (Fifo d))) (Recovery d)) w r
+    by_test : (b : Bool) → leb 27 r.place ≡ b → Within (cond b (Ended (Err (Driver (Fifo d)))) (Recovery d)) w r
     by_test true e = tt
     by_test false e = leb-false 27 r.place e
 
@@ -144,11 +144,6 @@ within t (v ∷ vs) h = within (resumed t v) vs (resumed_within t.phase t.work t
 counts : (n limit : ℕ) → n < limit → counted n limit ≡ n + 1
 counts n limit l = rw (lt-ltb n limit l) refl
 
-in_table : (moves : List Move) (place : ℕ) (x y : Move) → place < length moves → get_or moves place x ≡ get_or moves place y
-in_table [] place x y l = absurd (omega arith)
-in_table (m ∷ ms) zero x y l = refl
-in_table (m ∷ ms) (suc place) x y l = in_table ms place x y (omega arith)
-
 -- IDLE BOUNDS: a word that is sent or received is counted, a recovery makes the moves of its table, and a poll for a place compares
 -- TXCOUNT with 2^exponent
 pub record Unbounded (t : Transfer) : Type 0 where
@@ -165,7 +160,7 @@ unbounded d command send receive vs =
     record {
       sends = λ e. counts t.work.sent t.work.send (subst (λ (p : Stage). Within p t.work t.reset) e h).0;
       receives = λ e. counts t.work.received t.work.receive (subst (λ (p : Stage). Within p t.work t.reset) e h).0;
-      recovers = λ d e. in_table recovery t.reset.place _ _ (subst (λ (p : Stage). Within p t.work t.reset) e h);
+      recovers = λ d e. get_or_default recovery t.reset.place _ _ (subst (λ (p : Stage). Within p t.work t.reset) e h);
       waits = λ param e. (subst (λ (p : Stage). Within p t.work t.reset) e h).1;
       polls = λ param e. (subst (λ (p : Stage). Within p t.work t.reset) e h).2;
     }

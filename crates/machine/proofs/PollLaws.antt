@@ -3,7 +3,6 @@
 use Prim.Native.Nat.{ℕ}
 use mathlib.Core.Bool.{Bool, true, false, cond}
 use mathlib.Core.Path.{◌≡◌, refl}
-use native.Mathlib.Omega.{arith}
 use Rattle.words.specs.declared.transaction.Direction.{Direction}
 use Rattle.sequences.specs.Sequence.{too_deep}
 use Rattle.machine.specs.declared.poll.Poll.TheVariants.{Status, Sizes, Counts}
@@ -31,11 +30,11 @@ module _ (d : Direction) (status param counts : ℕ) where
   pub settled_ready : whole d status param counts ≡ Ready → Settled d status param counts Ready
   settled_ready =
       settled Ready
-      (λ (e : Failed ≡ Ready). let z : ◌≡◌ {A = ℕ} 0 1 = cc in omega arith)
-      (λ (e : TooDeep ≡ Ready). let z : ◌≡◌ {A = ℕ} 0 1 = cc in omega arith)
+      (λ (e : Failed ≡ Ready). cc)
+      (λ (e : TooDeep ≡ Ready). cc)
 
   pub settled_unready : whole d status param counts ≡ Unready → Settled d status param counts Unready
   settled_unready =
       settled Unready
-      (λ (e : Failed ≡ Unready). let z : ◌≡◌ {A = ℕ} 0 1 = cc in omega arith)
-      (λ (e : TooDeep ≡ Unready). let z : ◌≡◌ {A = ℕ} 0 1 = cc in omega arith)
+      (λ (e : Failed ≡ Unready). cc)
+      (λ (e : TooDeep ≡ Unready). cc)

@@ -6,9 +6,9 @@ use mathlib.Core.Path.{◌≡◌, refl, ap₂}
 use lib.Dec.{eqb}
 use borrow.Author.Tests.{eqb-true}
 use Rattle.sequences.specs.declared.sequence.Sequence.{Sequence}
-use Rattle.machine.specs.declared.poll.Poll.TheVariants.{Status, Sizes, Counts}
+use Rattle.machine.specs.declared.poll.Poll.TheVariants.{Status}
 use Rattle.machine.specs.declared.transfer.Stage.{Stage}
-use Rattle.machine.specs.declared.transfer.Stage.TheVariants.{Space, Command, Sending, Send, Receiving, Receive, Recovery, Ended}
+use Rattle.machine.specs.declared.transfer.Stage.TheVariants.{Space}
 use Rattle.machine.specs.declared.transfer.Transfer.{Transfer}
 use Rattle.machine.specs.declared.transfer.Work.{Work}
 use Rattle.machine.specs.Transfer.{at, at_start, starts_in, is_at_start}
@@ -22,23 +22,11 @@ Begun p w r = at p w r ≡ at_start r w.command w.send w.receive
 
 -- no word is done
 none_done : (w : Work) (r : Sequence) → w.sent ≡ 0 → w.received ≡ 0 → Begun (Space Status) w r
-none_done w r es er =
-    ap₂
-    (λ (m n : ℕ).
-    at (Space Status) (record { command = w.command; send = w.send; receive = w.receive; sent = m; received = n }) r)
-    es er
+none_done w r es er = ap₂ (λ (m n : ℕ). at (Space Status) (record w { sent = m; received = n }) r) es er
 
 by_stage : (p : Stage) (w : Work) (r : Sequence) → starts_in p ≡ true → w.sent ≡ 0 → w.received ≡ 0 → Begun p w r
 by_stage (Space Status) w r e es er = none_done w r es er
-by_stage (Space Sizes) w r e es er = cc
-by_stage (Space (Counts param)) w r e es er = cc
-by_stage Command w r e es er = cc
-by_stage (Sending p) w r e es er = cc
-by_stage Send w r e es er = cc
-by_stage (Receiving p) w r e es er = cc
-by_stage Receive w r e es er = cc
-by_stage (Recovery d) w r e es er = cc
-by_stage (Ended x) w r e es er = cc
+by_stage p w r e es er = cc
 
 pub at_start_lem : (t : Transfer) → is_at_start t ≡ true → t ≡ at_start t.reset t.work.command t.work.send t.work.receive
 at_start_lem t e =

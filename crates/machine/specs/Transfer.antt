@@ -1,18 +1,18 @@
 -- The machine of a transfer (document 01, Accesses and transfers): transmit poll until ready; TCR; then words. The sending side goes
 -- until it must wait or ends, then the receiving side, over again; an error in one ends both.
 -- Assumes nothing.
-use Rattle.std.specs.Prelude.{ℕ, ◌+◌, Bool, true, false, cond, ◌&&◌, eqb, ltb}
+use Rattle.std.specs.Prelude.{ℕ, ◌+◌, Bool, true, false, cond, ◌&&◌, eqb, ltb, Ok, Err}
 use Rattle.manual.specs.declared.Register.TheVariants.{TCR}
 use Rattle.words.specs.declared.transaction.Direction.{Direction}
 use Rattle.words.specs.declared.transaction.Direction.TheVariants.{Tx, Rx}
 use Rattle.words.specs.declared.transaction.LpspiError.TheVariants.{Fifo}
 use Rattle.sequences.specs.declared.access.Access.{Access}
 use Rattle.sequences.specs.declared.access.Access.TheVariants.{Write, Done, Send as SendWord, Receive as ReceiveWord}
-use Rattle.sequences.specs.declared.access.Ending.{Ending}
-use Rattle.sequences.specs.declared.access.Ending.TheVariants.{Ok, Err, FifoExponent}
+use Rattle.sequences.specs.Access.{Ending}
+use Rattle.sequences.specs.declared.access.RunError.TheVariants.{Driver, FifoExponent}
 use Rattle.sequences.specs.declared.driver.Lpspi.{Lpspi}
 use Rattle.machine.specs.declared.poll.Poll.{Poll}
-use Rattle.machine.specs.declared.poll.Poll.TheVariants.{Status, Sizes, Counts}
+use Rattle.machine.specs.declared.poll.Poll.TheVariants.{Status}
 use Rattle.machine.specs.declared.poll.Polled.{Polled}
 use Rattle.machine.specs.declared.poll.Polled.TheVariants.{Failed, TooDeep, Next, Ready, Unready}
 use Rattle.sequences.specs.declared.sequence.Sequence.{Sequence}
@@ -46,11 +46,11 @@ ended_transfer d e = at (Ended e) (work 0 0 0) (sequence_start d)
 -- the sending side goes on while it has words left; then the receiving side; when both have ended, Ok
 abbrev pub send_turn : Work → Stage
 send_turn w =
-    cond (ltb w.sent w.send) (Sending Status) (cond (ltb w.received w.receive) (Receiving Status) (Ended Ok))
+    cond (ltb w.sent w.send) (Sending Status) (cond (ltb w.received w.receive) (Receiving Status) (Ended (Ok tt)))
 
 abbrev pub receive_turn : Work → Stage
 receive_turn w =
-    cond (ltb w.received w.receive) (Receiving Status) (cond (ltb w.sent w.send) (Sending Status) (Ended Ok))
+    cond (ltb w.received w.receive) (Receiving Status) (cond (ltb w.sent w.send) (Sending Status) (Ended (Ok tt)))
 
 abbrev pub turn_of : Direction → Work → Stage
 turn_of Tx = send_turn
@@ -58,7 +58,7 @@ turn_of Rx = receive_turn
 
 -- so many words done
 abbrev pub worked : ℕ → ℕ → Work → Work
-worked sent received w = record { command = w.command; send = w.send; receive = w.receive; sent = sent; received = received }
+worked sent received w = record w { sent = sent; received = received }
 
 abbrev pub turn_at : Direction → ℕ → ℕ → Transfer → Transfer
 turn_at side sent received t =
@@ -70,17 +70,15 @@ abbrev pub counted : ℕ → ℕ → ℕ
 counted n limit = cond (ltb n limit) (n + 1) n
 
 abbrev pub one_sent : Work → Work
-one_sent w =
-    record { command = w.command; send = w.send; receive = w.receive; sent = counted w.sent w.send; received = w.received }
+one_sent w = record w { sent = counted w.sent w.send }
 
 abbrev pub one_received : Work → Work
-one_received w =
-    record { command = w.command; send = w.send; receive = w.receive; sent = w.sent; received = counted w.received w.receive }
+one_received w = record w { received = counted w.received w.receive }
 
 -- an error before TCR does no recovery
 abbrev pub space_by : Polled → Stage
-space_by Failed = Ended (Err (Fifo Tx))
-space_by TooDeep = Ended FifoExponent
+space_by Failed = Ended (Err (Driver (Fifo Tx)))
+space_by TooDeep = Ended (Err FifoExponent)
 space_by (Next p) = Space p
 space_by Ready = Command
 space_by Unready = Space Status
@@ -88,14 +86,14 @@ space_by Unready = Space Status
 -- a later one does; 7 never does ("without recovery"); the side that must wait gives the turn to the other
 abbrev pub sending_by : Work → Polled → Stage
 sending_by w Failed = Recovery Tx
-sending_by w TooDeep = Ended FifoExponent
+sending_by w TooDeep = Ended (Err FifoExponent)
 sending_by w (Next p) = Sending p
 sending_by w Ready = Send
 sending_by w Unready = receive_turn w
 
 abbrev pub receiving_by : Work → Polled → Stage
 receiving_by w Failed = Recovery Rx
-receiving_by w TooDeep = Ended FifoExponent
+receiving_by w TooDeep = Ended (Err FifoExponent)
 receiving_by w (Next p) = Receiving p
 receiving_by w Ready = Receive
 receiving_by w Unready = send_turn w
@@ -111,7 +109,7 @@ after_receiving p w v = receiving_by w (polled Rx p v)
 
 -- the error is answered once the recovery is done
 abbrev pub after_recovery : Direction → Sequence → Stage
-after_recovery d r = cond (recovered r) (Ended (Err (Fifo d))) (Recovery d)
+after_recovery d r = cond (recovered r) (Ended (Err (Driver (Fifo d)))) (Recovery d)
 
 -- THE ACCESS THAT IS DUE
 abbrev due_in : Stage → Work → Sequence → Access
@@ -143,20 +141,9 @@ resumed t v = resumed_in t.phase t.work t.reset v
 
 -- whether it stands at its start, before the first read of a poll for the command's place, and no word is done. (It does so again after
 -- each poll that was not ready.)
-abbrev starts_poll : Poll → Bool
-starts_poll Status = true
-starts_poll Sizes = false
-starts_poll (Counts param) = false
-
 abbrev pub starts_in : Stage → Bool
-starts_in (Space p) = starts_poll p
-starts_in Command = false
-starts_in (Sending p) = false
-starts_in Send = false
-starts_in (Receiving p) = false
-starts_in Receive = false
-starts_in (Recovery d) = false
-starts_in (Ended e) = false
+starts_in (Space Status) = true
+starts_in p = false
 
 abbrev pub is_at_start : Transfer → Bool
 is_at_start t = starts_in t.phase && (eqb t.work.sent 0 && eqb t.work.received 0)

@@ -3,11 +3,11 @@ ghost use Rattle.std.specs.Prelude.{◌≡◌};
 ghost use Rattle.machine.specs.Flush.{flush_access, flushed};
 
 use manual::{Field, Fsr, Register, Sr};
-use sequences::access::{Access, Ending};
+use sequences::access::{Access, Ending, RunError};
 use sequences::sequence::too_deep;
 use words::transaction::{Direction, LpspiError};
 
-// Where a flush stands: the read that is due, or its end.
+// Where a flush stands: the read that is due, or its end. (Data, and not closures, as a transfer's `Stage`.)
 #[derive(Clone, Copy)]
 pub enum Flush {
     Status,
@@ -20,10 +20,10 @@ fn after_status(status: u32) -> Flush
     ensures { result ≡ flushed Flush.Status status }
 {
     if Field::Sr(Sr::REF).read(status) == 1 {
-        return Flush::Ended(Ending::Err(LpspiError::Fifo(Direction::Rx)));
+        return Flush::Ended(Err(LpspiError::Fifo(Direction::Rx).into()));
     }
     if Field::Sr(Sr::TEF).read(status) == 1 {
-        return Flush::Ended(Ending::Err(LpspiError::Fifo(Direction::Tx)));
+        return Flush::Ended(Err(LpspiError::Fifo(Direction::Tx).into()));
     }
     if Field::Sr(Sr::MBF).read(status) == 1 {
         return Flush::Status;
@@ -35,7 +35,7 @@ fn after_sizes(param: u32) -> Flush
     ensures { result ≡ flushed Flush.Sizes param }
 {
     if too_deep(param) {
-        return Flush::Ended(Ending::FifoExponent);
+        return Flush::Ended(Err(RunError::FifoExponent));
     }
     Flush::Counts
 }
@@ -44,7 +44,7 @@ fn after_counts(counts: u32) -> Flush
     ensures { result ≡ flushed Flush.Counts counts }
 {
     if Field::Fsr(Fsr::TXCOUNT).read(counts) == 0 {
-        return Flush::Ended(Ending::Ok);
+        return Flush::Ended(Ok(()));
     }
     Flush::Status
 }

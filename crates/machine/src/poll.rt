@@ -7,7 +7,7 @@ use sequences::access::Access;
 use sequences::sequence::{depth, too_deep};
 use words::transaction::Direction;
 
-// The read that is due; with the counts, what PARAM answered before them.
+// The read that is due; with the counts, what PARAM answered before them. (Data, and not closures, as a transfer's `Stage`.)
 #[derive(Clone, Copy)]
 pub enum Poll {
     Status,
@@ -15,7 +15,8 @@ pub enum Poll {
     Counts(u32),
 }
 
-// What a poll comes to by an answer.
+// What a poll comes to by an answer. Each of the five leads a transfer to another stage, and no caller hands a failure on: as a Result its
+// errors would be matched beside the rest.
 #[derive(Clone, Copy)]
 pub enum Polled {
     Failed,
@@ -24,16 +25,6 @@ pub enum Polled {
     Next(Poll),
     Ready,
     Unready,
-}
-
-pub(crate) fn poll_access(poll: Poll) -> Access
-    ensures { result ≡ poll_access poll }
-{
-    match poll {
-        Poll::Status => Access::Read(Register::SR),
-        Poll::Sizes => Access::Read(Register::PARAM),
-        Poll::Counts(_) => Access::Read(Register::FSR),
-    }
 }
 
 // The direction's error flag is set.
@@ -56,30 +47,29 @@ fn ready(direction: Direction, param: u32, counts: u32) -> bool
     }
 }
 
-pub(crate) fn poll_answered(direction: Direction, poll: Poll, value: u32) -> Polled
-    ensures { result ≡ polled direction poll value }
-{
-    match poll {
-        Poll::Status => {
-            if failed(direction, value) {
-                Polled::Failed
-            } else {
-                Polled::Next(Poll::Sizes)
-            }
+impl Poll {
+    // The access that is due.
+    pub(crate) fn access(self) -> Access
+        ensures { result ≡ poll_access self }
+    {
+        match self {
+            Poll::Status => Access::Read(Register::SR),
+            Poll::Sizes => Access::Read(Register::PARAM),
+            Poll::Counts(_) => Access::Read(Register::FSR),
         }
-        Poll::Sizes => {
-            if too_deep(value) {
-                Polled::TooDeep
-            } else {
-                Polled::Next(Poll::Counts(value))
-            }
-        }
-        Poll::Counts(param) => {
-            if ready(direction, param, value) {
-                Polled::Ready
-            } else {
-                Polled::Unready
-            }
+    }
+
+    // What the poll comes to by the answer to it.
+    pub(crate) fn answered(self, direction: Direction, value: u32) -> Polled
+        ensures { result ≡ polled direction self value }
+    {
+        match self {
+            Poll::Status if failed(direction, value) => Polled::Failed,
+            Poll::Status => Polled::Next(Poll::Sizes),
+            Poll::Sizes if too_deep(value) => Polled::TooDeep,
+            Poll::Sizes => Polled::Next(Poll::Counts(value)),
+            Poll::Counts(param) if ready(direction, param, value) => Polled::Ready,
+            Poll::Counts(_) => Polled::Unready,
         }
     }
 }
@@ -88,12 +78,9 @@ pub(crate) fn poll_answered(direction: Direction, poll: Poll, value: u32) -> Pol
 fn from_sizes(direction: Direction, param: u32, counts: u32) -> Polled
     ensures { result ≡ from_sizes direction param counts }
 {
-    match poll_answered(direction, Poll::Sizes, param) {
-        Polled::Failed => Polled::Failed,
-        Polled::TooDeep => Polled::TooDeep,
-        Polled::Next(_) => poll_answered(direction, Poll::Counts(param), counts),
-        Polled::Ready => Polled::Ready,
-        Polled::Unready => Polled::Unready,
+    match Poll::Sizes.answered(direction, param) {
+        Polled::Next(_) => Poll::Counts(param).answered(direction, counts),
+        settled => settled,
     }
 }
 
@@ -101,11 +88,8 @@ fn from_sizes(direction: Direction, param: u32, counts: u32) -> Polled
 pub fn whole(direction: Direction, status: u32, param: u32, counts: u32) -> Polled
     ensures { result ≡ whole direction status param counts }
 {
-    match poll_answered(direction, Poll::Status, status) {
-        Polled::Failed => Polled::Failed,
-        Polled::TooDeep => Polled::TooDeep,
+    match Poll::Status.answered(direction, status) {
         Polled::Next(_) => from_sizes(direction, param, counts),
-        Polled::Ready => Polled::Ready,
-        Polled::Unready => Polled::Unready,
+        settled => settled,
     }
 }

@@ -1,18 +1,18 @@
 // The machine of a transfer.
 ghost use Rattle.std.specs.Prelude.{◌≡◌};
-ghost use Rattle.machine.specs.Transfer.{start_transfer, ended_transfer, send_turn, receive_turn, turn_of, counted, one_sent, one_received};
-ghost use Rattle.machine.specs.Transfer.{after_space, after_sending, after_receiving, after_recovery, at, turn_at, due_access, resumed};
-ghost use Rattle.machine.specs.Transfer.{starts_in, is_at_start};
+ghost use Rattle.machine.specs.Transfer.{start_transfer, ended_transfer, turn_of, counted, one_sent, one_received};
+ghost use Rattle.machine.specs.Transfer.{after_space, after_sending, after_receiving, after_recovery, turn_at, due_access, resumed};
+ghost use Rattle.machine.specs.Transfer.{is_at_start};
 
-use crate::poll::{Poll, Polled, poll_access, poll_answered};
+use crate::poll::{Poll, Polled};
 use manual::Register;
-use sequences::access::{Access, Ending};
+use sequences::access::{Access, Ending, RunError};
 use sequences::driver::Lpspi;
 use sequences::recovery::{is_recovered, recovery_access, recovery_after};
 use sequences::sequence::Sequence;
 use words::transaction::{Direction, LpspiError, Transaction};
 
-// Where a transfer stands.
+// Where a transfer stands. Stages are data and not closures: `BoundLaws.unbounded` and `SevenLaws.seven` say what holds in each.
 #[derive(Clone, Copy)]
 pub enum Stage {
     // Waiting for a place for the command.
@@ -29,7 +29,7 @@ pub enum Stage {
 }
 
 // What a transfer works with: TCR's word, the FIFO words to send and to receive, and those done.
-#[derive(Clone, Copy)]
+#[derive(Clone, Copy, Default)]
 pub struct Work {
     pub command: u32,
     pub send: usize,
@@ -45,115 +45,80 @@ pub struct Transfer {
     reset: Sequence,
 }
 
-// The sending side's turn: it goes on if it has words left, else the receiving side, else the transfer has ended.
-fn send_turn(work: Work) -> Stage
-    ensures { result ≡ send_turn work }
-{
-    if work.sent < work.send {
-        return Stage::Sending(Poll::Status);
-    }
-    if work.received < work.receive {
-        return Stage::Receiving(Poll::Status);
-    }
-    Stage::Ended(Ending::Ok)
-}
-
-fn receive_turn(work: Work) -> Stage
-    ensures { result ≡ receive_turn work }
-{
-    if work.received < work.receive {
-        return Stage::Receiving(Poll::Status);
-    }
-    if work.sent < work.send {
-        return Stage::Sending(Poll::Status);
-    }
-    Stage::Ended(Ending::Ok)
-}
-
-fn turn(side: Direction, work: Work) -> Stage
-    ensures { result ≡ turn_of side work }
-{
-    match side {
-        Direction::Tx => send_turn(work),
-        Direction::Rx => receive_turn(work),
-    }
-}
-
 fn counted(n: usize, limit: usize) -> usize
     ensures { result ≡ counted n limit }
 {
     if n < limit { n + 1 } else { n }
 }
 
-fn one_sent(work: Work) -> Work
-    ensures { result ≡ one_sent work }
-{
-    let mut w = work;
-    w.sent = counted(work.sent, work.send);
-    w
-}
+impl Work {
+    // A side's turn: it goes on if it has words left, else the other side, else the transfer has ended.
+    fn turn(self, side: Direction) -> Stage
+        ensures { result ≡ turn_of side self }
+    {
+        let sending = (self.sent < self.send).then_some(Stage::Sending(Poll::Status));
+        let receiving = (self.received < self.receive).then_some(Stage::Receiving(Poll::Status));
+        let next = match side {
+            Direction::Tx => sending.or(receiving),
+            Direction::Rx => receiving.or(sending),
+        };
+        next.unwrap_or(Stage::Ended(Ok(())))
+    }
 
-fn one_received(work: Work) -> Work
-    ensures { result ≡ one_received work }
-{
-    let mut w = work;
-    w.received = counted(work.received, work.receive);
-    w
-}
+    // One word sent, and one received: each counts its own field to its own end.
+    fn one_sent(self) -> Self
+        ensures { result ≡ one_sent self }
+    {
+        Work {
+            sent: counted(self.sent, self.send),
+            ..self
+        }
+    }
 
-// Before the first read of a poll for the command's place.
-fn starts(phase: Stage) -> bool
-    ensures { result ≡ starts_in phase }
-{
-    match phase {
-        Stage::Space(poll) => match poll {
-            Poll::Status => true,
-            Poll::Sizes => false,
-            Poll::Counts(_) => false,
-        },
-        Stage::Command => false,
-        Stage::Sending(_) => false,
-        Stage::Send => false,
-        Stage::Receiving(_) => false,
-        Stage::Receive => false,
-        Stage::Recovery(_) => false,
-        Stage::Ended(_) => false,
+    fn one_received(self) -> Self
+        ensures { result ≡ one_received self }
+    {
+        Work {
+            received: counted(self.received, self.receive),
+            ..self
+        }
     }
 }
 
 fn after_space(poll: Poll, value: u32) -> Stage
     ensures { result ≡ after_space poll value }
 {
-    match poll_answered(Direction::Tx, poll, value) {
-        Polled::Failed => Stage::Ended(Ending::Err(LpspiError::Fifo(Direction::Tx))),
-        Polled::TooDeep => Stage::Ended(Ending::FifoExponent),
+    match poll.answered(Direction::Tx, value) {
+        Polled::Failed => Stage::Ended(Err(LpspiError::Fifo(Direction::Tx).into())),
+        Polled::TooDeep => Stage::Ended(Err(RunError::FifoExponent)),
         Polled::Next(p) => Stage::Space(p),
         Polled::Ready => Stage::Command,
         Polled::Unready => Stage::Space(Poll::Status),
     }
 }
 
+// This and `after_receiving` name a direction and stages of their own in four of five arms: one function would ask the side in each.
 fn after_sending(poll: Poll, work: Work, value: u32) -> Stage
     ensures { result ≡ after_sending poll work value }
 {
-    match poll_answered(Direction::Tx, poll, value) {
+    match poll.answered(Direction::Tx, value) {
         Polled::Failed => Stage::Recovery(Direction::Tx),
-        Polled::TooDeep => Stage::Ended(Ending::FifoExponent),
+        Polled::TooDeep => Stage::Ended(Err(RunError::FifoExponent)),
         Polled::Next(p) => Stage::Sending(p),
         Polled::Ready => Stage::Send,
-        Polled::Unready => receive_turn(work),
+        Polled::Unready => work.turn(Direction::Rx),
     }
 }
 
 fn after_receiving(poll: Poll, work: Work, value: u32) -> Stage
     ensures { result ≡ after_receiving poll work value }
 {
-    match poll_answered(Direction::Rx, poll, value) {
+    match poll.answered(Direction::Rx, value) {
         Polled::Failed => Stage::Recovery(Direction::Rx),
-        Polled::TooDeep => Stage::Ended(Ending::FifoExponent),
+        Polled::TooDeep => Stage::Ended(Err(RunError::FifoExponent)),
         Polled::Next(p) => Stage::Receiving(p),
         Polled::Ready => Stage::Receive,
-        Polled::Unready => send_turn(work),
+        Polled::Unready => work.turn(Direction::Tx),
     }
 }
 
@@ -161,7 +126,7 @@ fn after_recovery(direction: Direction, reset: Sequence) -> Stage
     ensures { result ≡ after_recovery direction reset }
 {
     if is_recovered(reset) {
-        return Stage::Ended(Ending::Err(LpspiError::Fifo(direction)));
+        return Stage::Ended(Err(LpspiError::Fifo(direction).into()));
     }
     Stage::Recovery(direction)
 }
@@ -177,8 +142,7 @@ impl Transfer {
                 command: transaction.as_raw(),
                 send,
                 receive,
-                sent: 0,
-                received: 0,
+                ..Work::default()
             },
             reset: Sequence::start(driver),
         }
@@ -190,13 +154,7 @@ impl Transfer {
     {
         Transfer {
             phase: Stage::Ended(ending),
-            work: Work {
-                command: 0,
-                send: 0,
-                receive: 0,
-                sent: 0,
-                received: 0,
-            },
+            work: Work::default(),
             reset: Sequence::start(driver),
         }
     }
@@ -205,14 +163,9 @@ impl Transfer {
     pub fn is_at_start(self) -> bool
         ensures { result ≡ is_at_start self }
     {
-        let phase = self.phase;
-        let work = self.work;
-        if starts(phase) {
-            if work.sent == 0 {
-                return work.received == 0;
-            }
-        }
-        false
+        matches!(self.phase, Stage::Space(Poll::Status))
+            && self.work.sent == 0
+            && self.work.received == 0
     }
 
     // What it works with.
@@ -226,65 +179,80 @@ impl Transfer {
     pub fn at_turn(self, side: Direction, sent: usize, received: usize) -> Self
         ensures { result ≡ turn_at side sent received self }
     {
-        let reset = self.reset;
-        let mut w = self.work;
-        w.sent = sent;
-        w.received = received;
-        standing(turn(side, w), w, reset)
+        let work = Work {
+            sent,
+            received,
+            ..self.work
+        };
+        Transfer {
+            phase: work.turn(side),
+            work,
+            ..self
+        }
     }
 
     // The access that is due.
+    #[tactic(auto, unfolding(crate::specs::Transfer::due_access))]
     pub fn next(self) -> Access
         ensures { result ≡ due_access self }
     {
-        let phase = self.phase;
-        let work = self.work;
-        match phase {
-            Stage::Space(p) => poll_access(p),
-            Stage::Command => Access::Write(Register::TCR, work.command),
-            Stage::Sending(p) => poll_access(p),
-            Stage::Send => Access::Send(work.sent),
-            Stage::Receiving(p) => poll_access(p),
-            Stage::Receive => Access::Receive(work.received),
-            Stage::Recovery(_) => {
-                let reset = self.reset;
-                recovery_access(reset)
-            }
+        match self.phase {
+            Stage::Space(p) | Stage::Sending(p) | Stage::Receiving(p) => p.access(),
+            Stage::Command => Access::Write(Register::TCR, self.work.command),
+            Stage::Send => Access::Send(self.work.sent),
+            Stage::Receive => Access::Receive(self.work.received),
+            Stage::Recovery(_) => recovery_access(self.reset),
             Stage::Ended(e) => Access::Done(e),
         }
     }
 
     // The transfer after that access, which answered `value`.
+    #[tactic(auto, unfolding(crate::specs::Transfer::resumed))]
     pub fn answered(self, value: u32) -> Self
         ensures { result ≡ resumed self value }
     {
-        let phase = self.phase;
-        let work = self.work;
-        let reset = self.reset;
-        match phase {
-            Stage::Space(p) => standing(after_space(p, value), work, reset),
-            Stage::Command => standing(send_turn(work), work, reset),
-            Stage::Sending(p) => standing(after_sending(p, work, value), work, reset),
+        match self.phase {
+            Stage::Space(p) => Transfer {
+                phase: after_space(p, value),
+                ..self
+            },
+            Stage::Command => Transfer {
+                phase: self.work.turn(Direction::Tx),
+                ..self
+            },
+            Stage::Sending(p) => Transfer {
+                phase: after_sending(p, self.work, value),
+                ..self
+            },
             Stage::Send => {
-                let w = one_sent(work);
-                standing(send_turn(w), w, reset)
+                let work = self.work.one_sent();
+                Transfer {
+                    phase: work.turn(Direction::Tx),
+                    work,
+                    ..self
+                }
             }
-            Stage::Receiving(p) => standing(after_receiving(p, work, value), work, reset),
+            Stage::Receiving(p) => Transfer {
+                phase: after_receiving(p, self.work, value),
+                ..self
+            },
             Stage::Receive => {
-                let w = one_received(work);
-                standing(receive_turn(w), w, reset)
+                let work = self.work.one_received();
+                Transfer {
+                    phase: work.turn(Direction::Rx),
+                    work,
+                    ..self
+                }
             }
             Stage::Recovery(d) => {
-                let r = recovery_after(reset, value);
-                standing(after_recovery(d, r), work, r)
+                let reset = recovery_after(self.reset, value);
+                Transfer {
+                    phase: after_recovery(d, reset),
+                    reset,
+                    ..self
+                }
             }
-            Stage::Ended(e) => standing(Stage::Ended(e), work, reset),
+            Stage::Ended(_) => self,
         }
     }
-}
-
-fn standing(phase: Stage, work: Work, reset: Sequence) -> Transfer
-    ensures { result ≡ at phase work reset }
-{
-    Transfer { phase, work, reset }
 }

@@ -6,6 +6,7 @@ use mathlib.Core.Bool.{Bool, true, false, cond, ◌&&◌, ◌||◌}
 use mathlib.Core.List.{List, [], ◌∷◌}
 use mathlib.Core.Path.{◌≡◌, refl, sym, ap, ◌∙◌, subst}
 use native.Mathlib.Omega.{arith}
+use lib.Ieee.Fits.{and_i}
 use lib.ListN.{length, get_or}
 use mir.Facts.{and_yes}
 use lib.Dec.{T, leb, ltb, eqb, leb→le, ltb→lt, eqb→eq, eqb_refl}
@@ -234,14 +235,9 @@ apart_or_same f g e =
     right true false h = elim h [ ]
     right false false h = elim h [ ]
 
-    both : (a b : Bool) → T a → T b → T (a && b)
-    both true true h k = tt
-    both true false h k = elim k [ ]
-    both false b h k = elim h [ ]
-
     itself : (f : Field) → T (same_bits f f)
     itself f =
-        both (eqb (bits_of f).position (bits_of f).position) (eqb (bits_of f).width (bits_of f).width)
+        and_i (eqb (bits_of f).position (bits_of f).position) (eqb (bits_of f).width (bits_of f).width)
         (eqb_refl (bits_of f).position) (eqb_refl (bits_of f).width)
 
 -- READ BACK: the value, masked to the field
@@ -299,12 +295,7 @@ AllOf r (s ∷ ss) = (register_of s.0 ≡ r) × AllOf r ss
 all_clear : (g : Field) (r : Register) (ss : List Setting) → register_of g ≡ r → AllOf r ss → T (clear g ss)
 all_clear g r [] e h = tt
 all_clear g r (s ∷ ss) e h =
-    pair (apart s.0 g || same_bits s.0 g) (clear g ss) (apart_or_same s.0 g (h.0 ∙ sym e)) (all_clear g r ss e h.1)
-  where
-    pair : (a b : Bool) → T a → T b → T (a && b)
-    pair true true s t = tt
-    pair true false s t = elim t [ ]
-    pair false b s t = elim s [ ]
+    and_i (apart s.0 g || same_bits s.0 g) (clear g ss) (apart_or_same s.0 g (h.0 ∙ sym e)) (all_clear g r ss e h.1)
 
 pub read_register : (g : Field) (r : Register) (ss : List Setting) (w : ℕ) → register_of g ≡ r → AllOf r ss
     → read_field g (set_all ss w) ≡ found g ss w

@@ -1,54 +1,39 @@
 // The registers of the LPSPI and their fields, by the manual's names.
 #![tactic(auto)]
 
-ghost use Rattle.std.specs.Prelude.{◌≡◌, ◌+◌, ◌<◌, ◌≤◌};
-ghost use Rattle.manual.specs.Bits.{get_bits, set_bits};
-ghost use Rattle.manual.specs.Manual.{param_bits, cr_bits, sr_bits, cfgr1_bits, ccr_bits, fcr_bits, fsr_bits, tcr_bits, rsr_bits};
+ghost use Rattle.std.specs.Prelude.{◌≡◌};
 ghost use Rattle.manual.specs.Manual.{offset_of, bits_of, read_field, set_field};
 
+mod bits;
+
+use bits::Bits;
+
+// A register, as the byte offset from the start of the register block.
 #[derive(Clone, Copy)]
 pub enum Register {
-    PARAM,
-    CR,
-    SR,
-    IER,
-    DER,
-    CFGR0,
-    CFGR1,
-    DMR0,
-    DMR1,
-    CCR,
-    FCR,
-    FSR,
-    TCR,
-    TDR,
-    RSR,
-    RDR,
+    PARAM = 0x04,
+    CR = 0x10,
+    SR = 0x14,
+    IER = 0x18,
+    DER = 0x1C,
+    CFGR0 = 0x20,
+    CFGR1 = 0x24,
+    DMR0 = 0x30,
+    DMR1 = 0x34,
+    CCR = 0x40,
+    FCR = 0x58,
+    FSR = 0x5C,
+    TCR = 0x60,
+    TDR = 0x64,
+    RSR = 0x70,
+    RDR = 0x74,
 }
 
 impl Register {
-    // The byte offset from the start of the register block.
     pub fn offset(self) -> u32
         ensures { result ≡ offset_of self }
     {
-        match self {
-            Register::PARAM => 0x04,
-            Register::CR => 0x10,
-            Register::SR => 0x14,
-            Register::IER => 0x18,
-            Register::DER => 0x1C,
-            Register::CFGR0 => 0x20,
-            Register::CFGR1 => 0x24,
-            Register::DMR0 => 0x30,
-            Register::DMR1 => 0x34,
-            Register::CCR => 0x40,
-            Register::FCR => 0x58,
-            Register::FSR => 0x5C,
-            Register::TCR => 0x60,
-            Register::TDR => 0x64,
-            Register::RSR => 0x70,
-            Register::RDR => 0x74,
-        }
+        self as u32
     }
 }
 
@@ -59,26 +44,6 @@ pub enum Param {
     RXFIFO,
 }
 
-impl Param {
-    fn position(self) -> u32
-        ensures { result ≡ (param_bits self).position }
-    {
-        match self {
-            Param::TXFIFO => 0,
-            Param::RXFIFO => 8,
-        }
-    }
-
-    fn width(self) -> u32
-        ensures { result ≡ (param_bits self).width }
-    {
-        match self {
-            Param::TXFIFO => 8,
-            Param::RXFIFO => 8,
-        }
-    }
-}
-
 // The fields of CR.
 #[derive(Clone, Copy)]
 pub enum Cr {
@@ -86,30 +51,6 @@ pub enum Cr {
     RST,
     RTF,
     RRF,
-}
-
-impl Cr {
-    fn position(self) -> u32
-        ensures { result ≡ (cr_bits self).position }
-    {
-        match self {
-            Cr::MEN => 0,
-            Cr::RST => 1,
-            Cr::RTF => 8,
-            Cr::RRF => 9,
-        }
-    }
-
-    fn width(self) -> u32
-        ensures { result ≡ (cr_bits self).width }
-    {
-        match self {
-            Cr::MEN => 1,
-            Cr::RST => 1,
-            Cr::RTF => 1,
-            Cr::RRF => 1,
-        }
-    }
 }
 
 // The fields of SR.
@@ -126,68 +67,12 @@ pub enum Sr {
     MBF,
 }
 
-impl Sr {
-    fn position(self) -> u32
-        ensures { result ≡ (sr_bits self).position }
-    {
-        match self {
-            Sr::TDF => 0,
-            Sr::RDF => 1,
-            Sr::WCF => 8,
-            Sr::FCF => 9,
-            Sr::TCF => 10,
-            Sr::TEF => 11,
-            Sr::REF => 12,
-            Sr::DMF => 13,
-            Sr::MBF => 24,
-        }
-    }
-
-    fn width(self) -> u32
-        ensures { result ≡ (sr_bits self).width }
-    {
-        match self {
-            Sr::TDF => 1,
-            Sr::RDF => 1,
-            Sr::WCF => 1,
-            Sr::FCF => 1,
-            Sr::TCF => 1,
-            Sr::TEF => 1,
-            Sr::REF => 1,
-            Sr::DMF => 1,
-            Sr::MBF => 1,
-        }
-    }
-}
-
 // The fields of CFGR1.
 #[derive(Clone, Copy)]
 pub enum Cfgr1 {
     MASTER,
     SAMPLE,
     PCSPOL,
-}
-
-impl Cfgr1 {
-    fn position(self) -> u32
-        ensures { result ≡ (cfgr1_bits self).position }
-    {
-        match self {
-            Cfgr1::MASTER => 0,
-            Cfgr1::SAMPLE => 1,
-            Cfgr1::PCSPOL => 8,
-        }
-    }
-
-    fn width(self) -> u32
-        ensures { result ≡ (cfgr1_bits self).width }
-    {
-        match self {
-            Cfgr1::MASTER => 1,
-            Cfgr1::SAMPLE => 1,
-            Cfgr1::PCSPOL => 4,
-        }
-    }
 }
 
 // The fields of CCR.
@@ -199,30 +84,6 @@ pub enum Ccr {
     SCKPCS,
 }
 
-impl Ccr {
-    fn position(self) -> u32
-        ensures { result ≡ (ccr_bits self).position }
-    {
-        match self {
-            Ccr::SCKDIV => 0,
-            Ccr::DBT => 8,
-            Ccr::PCSSCK => 16,
-            Ccr::SCKPCS => 24,
-        }
-    }
-
-    fn width(self) -> u32
-        ensures { result ≡ (ccr_bits self).width }
-    {
-        match self {
-            Ccr::SCKDIV => 8,
-            Ccr::DBT => 8,
-            Ccr::PCSSCK => 8,
-            Ccr::SCKPCS => 8,
-        }
-    }
-}
-
 // The fields of FCR.
 #[derive(Clone, Copy)]
 pub enum Fcr {
@@ -230,51 +91,11 @@ pub enum Fcr {
     RXWATER,
 }
 
-impl Fcr {
-    fn position(self) -> u32
-        ensures { result ≡ (fcr_bits self).position }
-    {
-        match self {
-            Fcr::TXWATER => 0,
-            Fcr::RXWATER => 16,
-        }
-    }
-
-    fn width(self) -> u32
-        ensures { result ≡ (fcr_bits self).width }
-    {
-        match self {
-            Fcr::TXWATER => 4,
-            Fcr::RXWATER => 4,
-        }
-    }
-}
-
 // The fields of FSR.
 #[derive(Clone, Copy)]
 pub enum Fsr {
     TXCOUNT,
     RXCOUNT,
-}
-
-impl Fsr {
-    fn position(self) -> u32
-        ensures { result ≡ (fsr_bits self).position }
-    {
-        match self {
-            Fsr::TXCOUNT => 0,
-            Fsr::RXCOUNT => 16,
-        }
-    }
-
-    fn width(self) -> u32
-        ensures { result ≡ (fsr_bits self).width }
-    {
-        match self {
-            Fsr::TXCOUNT => 5,
-            Fsr::RXCOUNT => 5,
-        }
-    }
 }
 
 // The fields of TCR.
@@ -292,67 +113,11 @@ pub enum Tcr {
     CPOL,
 }
 
-impl Tcr {
-    fn position(self) -> u32
-        ensures { result ≡ (tcr_bits self).position }
-    {
-        match self {
-            Tcr::FRAMESZ => 0,
-            Tcr::TXMSK => 18,
-            Tcr::RXMSK => 19,
-            Tcr::CONTC => 20,
-            Tcr::CONT => 21,
-            Tcr::BYSW => 22,
-            Tcr::LSBF => 23,
-            Tcr::PCS => 24,
-            Tcr::CPHA => 30,
-            Tcr::CPOL => 31,
-        }
-    }
-
-    fn width(self) -> u32
-        ensures { result ≡ (tcr_bits self).width }
-    {
-        match self {
-            Tcr::FRAMESZ => 12,
-            Tcr::TXMSK => 1,
-            Tcr::RXMSK => 1,
-            Tcr::CONTC => 1,
-            Tcr::CONT => 1,
-            Tcr::BYSW => 1,
-            Tcr::LSBF => 1,
-            Tcr::PCS => 2,
-            Tcr::CPHA => 1,
-            Tcr::CPOL => 1,
-        }
-    }
-}
-
 // The fields of RSR.
 #[derive(Clone, Copy)]
 pub enum Rsr {
     SOF,
     RXEMPTY,
-}
-
-impl Rsr {
-    fn position(self) -> u32
-        ensures { result ≡ (rsr_bits self).position }
-    {
-        match self {
-            Rsr::SOF => 0,
-            Rsr::RXEMPTY => 1,
-        }
-    }
-
-    fn width(self) -> u32
-        ensures { result ≡ (rsr_bits self).width }
-    {
-        match self {
-            Rsr::SOF => 1,
-            Rsr::RXEMPTY => 1,
-        }
-    }
 }
 
 // A field of a register.
@@ -369,55 +134,50 @@ pub enum Field {
     Rsr(Rsr),
 }
 
-// `width` bits of a word from `position` up.
-fn get_bits(position: u32, width: u32, word: u32) -> u32
-    requires { (0 < width) × (width < 32) × (position + width ≤ 32) }
-    ensures { result ≡ get_bits position width word }
-{
-    (word >> position) & ((1 << width) - 1)
-}
-
-// The word with `value`, masked to `width` bits, from `position` up.
-fn set_bits(position: u32, width: u32, value: u32, word: u32) -> u32
-    requires { (0 < width) × (width < 32) × (position + width ≤ 32) }
-    ensures { result ≡ set_bits position width value word }
-{
-    let low = word & ((1 << position) - 1);
-    let high = (word >> position) >> width;
-    let field = value & ((1 << width) - 1);
-    (((high << width) | field) << position) | low
-}
-
 impl Field {
-    fn position(self) -> u32
-        ensures { result ≡ (bits_of self).position }
+    // The table of the manual: each field's lowest bit and its width.
+    fn bits(self) -> Bits
+        ensures { result ≡ bits_of self }
     {
         match self {
-            Field::Param(f) => f.position(),
-            Field::Cr(f) => f.position(),
-            Field::Sr(f) => f.position(),
-            Field::Cfgr1(f) => f.position(),
-            Field::Ccr(f) => f.position(),
-            Field::Fcr(f) => f.position(),
-            Field::Fsr(f) => f.position(),
-            Field::Tcr(f) => f.position(),
-            Field::Rsr(f) => f.position(),
-        }
-    }
-
-    fn width(self) -> u32
-        ensures { result ≡ (bits_of self).width }
-    {
-        match self {
-            Field::Param(f) => f.width(),
-            Field::Cr(f) => f.width(),
-            Field::Sr(f) => f.width(),
-            Field::Cfgr1(f) => f.width(),
-            Field::Ccr(f) => f.width(),
-            Field::Fcr(f) => f.width(),
-            Field::Fsr(f) => f.width(),
-            Field::Tcr(f) => f.width(),
-            Field::Rsr(f) => f.width(),
+            Field::Param(Param::TXFIFO) => Bits::new(0, 8),
+            Field::Param(Param::RXFIFO) => Bits::new(8, 8),
+            Field::Cr(Cr::MEN) => Bits::new(0, 1),
+            Field::Cr(Cr::RST) => Bits::new(1, 1),
+            Field::Cr(Cr::RTF) => Bits::new(8, 1),
+            Field::Cr(Cr::RRF) => Bits::new(9, 1),
+            Field::Sr(Sr::TDF) => Bits::new(0, 1),
+            Field::Sr(Sr::RDF) => Bits::new(1, 1),
+            Field::Sr(Sr::WCF) => Bits::new(8, 1),
+            Field::Sr(Sr::FCF) => Bits::new(9, 1),
+            Field::Sr(Sr::TCF) => Bits::new(10, 1),
+            Field::Sr(Sr::TEF) => Bits::new(11, 1),
+            Field::Sr(Sr::REF) => Bits::new(12, 1),
+            Field::Sr(Sr::DMF) => Bits::new(13, 1),
+            Field::Sr(Sr::MBF) => Bits::new(24, 1),
+            Field::Cfgr1(Cfgr1::MASTER) => Bits::new(0, 1),
+            Field::Cfgr1(Cfgr1::SAMPLE) => Bits::new(1, 1),
+            Field::Cfgr1(Cfgr1::PCSPOL) => Bits::new(8, 4),
+            Field::Ccr(Ccr::SCKDIV) => Bits::new(0, 8),
+            Field::Ccr(Ccr::DBT) => Bits::new(8, 8),
+            Field::Ccr(Ccr::PCSSCK) => Bits::new(16, 8),
+            Field::Ccr(Ccr::SCKPCS) => Bits::new(24, 8),
+            Field::Fcr(Fcr::TXWATER) => Bits::new(0, 4),
+            Field::Fcr(Fcr::RXWATER) => Bits::new(16, 4),
+            Field::Fsr(Fsr::TXCOUNT) => Bits::new(0, 5),
+            Field::Fsr(Fsr::RXCOUNT) => Bits::new(16, 5),
+            Field::Tcr(Tcr::FRAMESZ) => Bits::new(0, 12),
+            Field::Tcr(Tcr::TXMSK) => Bits::new(18, 1),
+            Field::Tcr(Tcr::RXMSK) => Bits::new(19, 1),
+            Field::Tcr(Tcr::CONTC) => Bits::new(20, 1),
+            Field::Tcr(Tcr::CONT) => Bits::new(21, 1),
+            Field::Tcr(Tcr::BYSW) => Bits::new(22, 1),
+            Field::Tcr(Tcr::LSBF) => Bits::new(23, 1),
+            Field::Tcr(Tcr::PCS) => Bits::new(24, 2),
+            Field::Tcr(Tcr::CPHA) => Bits::new(30, 1),
+            Field::Tcr(Tcr::CPOL) => Bits::new(31, 1),
+            Field::Rsr(Rsr::SOF) => Bits::new(0, 1),
+            Field::Rsr(Rsr::RXEMPTY) => Bits::new(1, 1),
         }
     }
 
@@ -425,13 +185,13 @@ impl Field {
     pub fn read(self, word: u32) -> u32
         ensures { result ≡ read_field self word }
     {
-        get_bits(self.position(), self.width(), word)
+        self.bits().get(word)
     }
 
     // The register's word with this field set to `value`, masked to the field.
     pub fn set(self, value: u32, word: u32) -> u32
         ensures { result ≡ set_field self value word }
     {
-        set_bits(self.position(), self.width(), value, word)
+        self.bits().set(value, word)
     }
 }

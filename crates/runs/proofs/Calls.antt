@@ -13,7 +13,8 @@ use Rattle.sequences.specs.Sequence.{sequence_start}
 use Rattle.runs.specs.Run.{limits, over_limits, ran, start, no_words}
 use Rattle.runs.specs.Flush.{flush_states, flush_run}
 use Rattle.runs.specs.Call.{call_left, call_states, called_by, call_run}
-use Rattle.sequences.specs.declared.access.Ending.TheVariants.{Limits}
+use Rattle.std.specs.Prelude.{Err}
+use Rattle.sequences.specs.declared.access.RunError.TheVariants.{Limits}
 use Rattle.runs.proofs.RunLaws.{run_log}
 
 pub flush_within : (d : Lpspi) (budget : ℕ) (script log : List ℕ) → (flush_run d budget script log).result.accesses ≤ budget
@@ -28,7 +29,7 @@ unfolding call_run called_by
 call_within d c budget script log = by_limits (limits budget log)
   where
     by_limits : (b : Bool)
-        → (cond b (call_left (record { ending = Limits; accesses = 0; answers = 0; sequence = sequence_start d }) log)
+        → (cond b (call_left (record { ending = Err Limits; accesses = 0; answers = 0; sequence = sequence_start d }) log)
         (called_by c log (call_states c d script budget))).called.accesses
         ≤ budget
     by_limits true = omega arith

@@ -19,8 +19,9 @@ use Rattle.manual.specs.declared.Register.TheVariants.{DMR1, CCR, FCR, FSR, TCR,
 use Rattle.manual.specs.Manual.{offset_of}
 use Rattle.sequences.specs.declared.access.Access.{Access}
 use Rattle.sequences.specs.declared.access.Access.TheVariants.{Read, Write, Send, Receive, Done}
-use Rattle.sequences.specs.declared.access.Ending.{Ending}
-use Rattle.sequences.specs.declared.access.Ending.TheVariants.{Limits}
+use Rattle.sequences.specs.Access.{Ending}
+use Rattle.std.specs.Prelude.{Err}
+use Rattle.sequences.specs.declared.access.RunError.TheVariants.{Limits}
 use Rattle.machine.specs.declared.transfer.Transfer.{Transfer}
 use Rattle.machine.specs.Transfer.{counted, due_access, resumed}
 use Rattle.runs.specs.declared.drive.Driven.{Driven}
@@ -28,8 +29,10 @@ use Rattle.runs.specs.declared.drive.Frame.{Frame}
 use Rattle.runs.specs.declared.drive.Spot.{Spot}
 use Rattle.runs.specs.Run.{Logged, code_of, value_of, uses_of, answer_of, received_after, halted, ending_of}
 use Rattle.runs.specs.Run.{times, State, start, step, after_access, limits, log_over, put}
+use Rattle.runs.specs.declared.running.Running.{Running}
 use Rattle.runs.specs.Drive.{word_in, got_after, words_after, stored, sent_from, words_states}
-use Rattle.runs.specs.Drive.{Stands, DrivenLeft, driven_left, driven_by, words_run}
+use Rattle.runs.specs.Drive.{DrivenLeft, driven_left, driven_by, words_run}
+use Rattle.runs.specs.Running.{states, Stands, At, Ended, Kept, Accessed}
 use Rattle.runs.proofs.RunLaws.{run_add, run_halted, run_last, log_put}
 
 -- STORED WORDS
@@ -100,14 +103,14 @@ offset_small TDR = lit< tt
 offset_small RSR = lit< tt
 offset_small RDR = lit< tt
 
-module _ (f : Frame) (script send old olds : List ℕ) (t : Transfer) where
+module _ {M : Type 0} (next : M → Access) (resume : M → ℕ → M) (f : Frame) (script send old olds : List ℕ) (t : M) where
   entry : Access → List ℕ → ℕ → Logged
   entry a rs v = record { at = code_of a; value = value_of (sent_from f send olds rs) a v }
 
-  stepped : (u : Transfer) (a : Access) (n : ℕ) (l : List Logged) (rs : List ℕ) → due_access u ≡ a → halted a n (length script) ≡ false
-      → step due_access resumed (sent_from f send olds) script (record { machine = u; used = n; log = l; received = rs })
+  stepped : (u : M) (a : Access) (n : ℕ) (l : List Logged) (rs : List ℕ) → next u ≡ a → halted a n (length script) ≡ false
+      → step next resume (sent_from f send olds) script (record { machine = u; used = n; log = l; received = rs })
       ≡ record {
-        machine = resumed u (answer_of a (get_or script n 0));
+        machine = resume u (answer_of a (get_or script n 0));
         used = n + uses_of a;
         log = l ++ (entry a rs (get_or script n 0) ∷ []);
         received = received_after a (get_or script n 0) rs;
@@ -115,35 +118,35 @@ module _ (f : Frame) (script send old olds : List ℕ) (t : Transfer) where
   unfolding step after_access entry
   stepped u a n l rs e h = rw (e, h)
 
-  module _ (u : Transfer) (s : Spot) (log words : List ℕ) (h : Stands f script send old olds t u s log words) where
-    abbrev here : State Transfer
-    here = words_states f script send olds t s.made
+  module _ (u : M) (s : Spot) (log words : List ℕ) (h : Stands next resume f script send old olds t u s log words) where
+    abbrev here : State M
+    here = states next resume f script send olds t s.made
 
     -- ONE ACCESS MORE
-    module _ (a : Access) (v : ℕ) (due : due_access u ≡ a) (goes : halted a s.used (length script) ≡ false)
+    module _ (a : Access) (v : ℕ) (due : next u ≡ a) (goes : halted a s.used (length script) ≡ false)
         (ev : v ≡ get_or script s.used 0) where
-      abbrev there : State Transfer
+      abbrev there : State M
       there =
           record {
-            machine = resumed u (answer_of a v);
+            machine = resume u (answer_of a v);
             used = s.used + uses_of a;
             log = here.log ++ (entry a here.received v ∷ []);
             received = received_after a v here.received;
           }
 
-      next_state : words_states f script send olds t (s.made + 1) ≡ there
+      next_state : states next resume f script send olds t (s.made + 1) ≡ there
       next_state =
-          run_last due_access resumed (sent_from f send olds) script s.made (start t)
+          run_last next resume (sent_from f send olds) script s.made (start t)
           ∙ ap₂
-          (λ (g : Transfer) (m : ℕ).
-          step due_access resumed (sent_from f send olds) script
+          (λ (g : M) (m : ℕ).
+          step next resume (sent_from f send olds) script
           (record { machine = g; used = m; log = here.log; received = here.received }))
           h.machine h.used
           ∙ stepped u a s.used here.log here.received due goes
           ∙ ap
           (λ (x : ℕ).
           record {
-            machine = resumed u (answer_of a x);
+            machine = resume u (answer_of a x);
             used = s.used + uses_of a;
             log = here.log ++ (entry a here.received x ∷ []);
             received = received_after a x here.received;
@@ -161,78 +164,123 @@ module _ (f : Frame) (script send old olds : List ℕ) (t : Transfer) where
           h.held (sym h.pairs)
           ∙ log_put old here.log (entry a here.received v) (omega (arith, h.pairs))
 
-      pub stands_next : (u' : Transfer) (s' : Spot) (log' words' : List ℕ) → 2 * s.made + 1 < length old → u' ≡ resumed u (answer_of a v)
+      pub stands_next : (u' : M) (s' : Spot) (log' words' : List ℕ) → 2 * s.made + 1 < length old → u' ≡ resume u (answer_of a v)
           → s'.made ≡ s.made + 1 → s'.used ≡ s.used + uses_of a → s'.received ≡ got_after a s.received (length words)
           → length log' ≡ length log
           → log' ≡ put log s.made (code_of a) (value_of (word_in f send words s.received) a v)
           → words' ≡ words_after a words s.received v
-          → Stands f script send old olds t u' s' log' words'
+          → Stands next resume f script send old olds t u' s' log' words'
       stands_next u' s' log' words' l eu em es er en el ew =
-          let e : words_states f script send olds t s'.made ≡ there = ap (words_states f script send olds t) em ∙ next_state in
+          let e : states next resume f script send olds t s'.made ≡ there = ap (states next resume f script send olds t) em ∙ next_state in
           record {
-            machine = ap (λ (x : State Transfer). x.machine) e ∙ sym eu;
-            used = ap (λ (x : State Transfer). x.used) e ∙ sym es;
+            machine = ap (λ (x : State M). x.machine) e ∙ sym eu;
+            used = ap (λ (x : State M). x.used) e ∙ sym es;
             pairs =
-                ap (λ (x : State Transfer). length x.log) e
+                ap (λ (x : State M). length x.log) e
                 ∙ length-append here.log (entry a here.received v ∷ [])
                 ∙ ap (λ (m : ℕ). m + 1) h.pairs
                 ∙ sym em;
-            got = ap (λ (x : State Transfer). stored x.received olds) e ∙ got_after_lem a v here.received olds
+            got = ap (λ (x : State M). stored x.received olds) e ∙ got_after_lem a v here.received olds
                 ∙ ap₂ (λ (g : ℕ) (w : List ℕ). got_after a g (length w)) h.got (sym h.placed) ∙ sym er;
             size = en ∙ h.size;
-            held = logged log' l el ∙ ap (λ (x : State Transfer). log_over old x.log) (sym e);
+            held = logged log' l el ∙ ap (λ (x : State M). log_over old x.log) (sym e);
             placed =
                 ew
                 ∙ ap₂ (λ (w : List ℕ) (g : ℕ). words_after a w g v) h.placed (sym h.got)
                 ∙ sym (words_after_lem a v here.received olds)
-                ∙ ap (λ (x : State Transfer). laid x.received olds) (sym e);
+                ∙ ap (λ (x : State M). laid x.received olds) (sym e);
           }
 
     -- THE END: no further access
-    left_here : (budget : ℕ) (e : Ending) → words_states f script send olds t budget ≡ here → e ≡ ending_of (due_access u)
-        → driven_left (record { ending = e; spot = s }) log words ≡ driven_by old olds (words_states f script send olds t budget)
-    unfolding driven_by
-    left_here budget e same ee =
-        ap₂ (λ (l w : List ℕ). driven_left (record { ending = e; spot = s }) l w) h.held h.placed
-        ∙ ap₂
-        (λ (x : Ending) (p : Spot).
-        driven_left (record { ending = x; spot = p }) (log_over old here.log) (laid here.received olds))
-        (ee ∙ ap (λ (g : Transfer). ending_of (due_access g)) (sym h.machine)) spot_here
-        ∙ ap (driven_by old olds) (sym same)
-      where
-        spot_here : s ≡ record { made = length here.log; used = here.used; received = stored here.received olds }
-        spot_here =
-            ap₂ (λ (m n : ℕ). record { made = m; used = n; received = s.received }) (sym h.pairs) (sym h.used)
-            ∙ ap (λ (g : ℕ). record { made = length here.log; used = here.used; received = g }) (sym h.got)
+    pub last_full : (budget : ℕ) → s.made ≤ budget → budget ≤ s.made → states next resume f script send olds t budget ≡ here
+    last_full budget l m = ap (states next resume f script send olds t) (let x : budget ≡ s.made = omega arith in x)
 
-    pub stands_full : (budget : ℕ) (e : Ending) → s.made ≤ budget → budget ≤ s.made → e ≡ ending_of (due_access u)
-        → driven_left (record { ending = e; spot = s }) log words ≡ driven_by old olds (words_states f script send olds t budget)
-    stands_full budget e l m ee =
-        left_here budget e (ap (words_states f script send olds t) (let x : budget ≡ s.made = omega arith in x)) ee
-
-    pub stands_halted : (budget : ℕ) (e : Ending) → s.made ≤ budget → halted (due_access u) s.used (length script) ≡ true
-        → e ≡ ending_of (due_access u)
-        → driven_left (record { ending = e; spot = s }) log words ≡ driven_by old olds (words_states f script send olds t budget)
-    stands_halted budget e l stops ee = left_here budget e same ee
-      where
-        same : words_states f script send olds t budget ≡ here
-        same =
-            ap (words_states f script send olds t) (let x : budget ≡ s.made + (budget - s.made) = omega arith in x)
-            ∙ run_add due_access resumed (sent_from f send olds) script s.made (budget - s.made) (start t)
-            ∙ run_halted due_access resumed (sent_from f send olds) script (budget - s.made) here
-            (ap₂ (λ (g : Transfer) (m : ℕ). halted (due_access g) m (length script)) h.machine h.used ∙ stops)
+    pub last_halted : (budget : ℕ) → s.made ≤ budget → halted (next u) s.used (length script) ≡ true
+        → states next resume f script send olds t budget ≡ here
+    last_halted budget l stops =
+        ap (states next resume f script send olds t) (let x : budget ≡ s.made + (budget - s.made) = omega arith in x)
+        ∙ run_add next resume (sent_from f send olds) script s.made (budget - s.made) (start t)
+        ∙ run_halted next resume (sent_from f send olds) script (budget - s.made) here
+        (ap₂ (λ (g : M) (m : ℕ). halted (next g) m (length script)) h.machine h.used ∙ stops)
 
 -- THE START
-pub stands_start : (f : Frame) (script send old olds : List ℕ) (t : Transfer)
-    → Stands f script send old olds t t (record { made = 0; used = 0; received = 0 }) old olds
+pub stands_start : {M : Type 0} (next : M → Access) (resume : M → ℕ → M) (f : Frame) (script send old olds : List ℕ) (t : M)
+    → Stands next resume f script send old olds t t (record { made = 0; used = 0; received = 0 }) old olds
 unfolding times
-stands_start f script send old olds t =
+stands_start next resume f script send old olds t =
     record { machine = refl; used = refl; pairs = refl; got = zero-min (length olds); size = refl; held = refl; placed = refl }
+
+-- WHAT THE CODE HOLDS
+module _ {M : Type 0} (next : M → Access) (resume : M → ℕ → M) (old olds : List ℕ) (t u : M) where
+  -- it has gone on to a state that is said of the fields
+  pub moved : (r s : Running) (p : Spot) (log words : List ℕ) → Kept r s → s.spot ≡ p → s.log.now ≡ log → s.received_words.now ≡ words
+      → Stands next resume r.frame r.script.now r.sent_words.now old olds t u p log words → At next resume old olds t u s
+  moved r s p log words k ep el ew h = rw (k.frame, k.script, k.sent_words, ep, el, ew) h
+
+  pub accessed : (r s : Running) (a : Access) (v : ℕ) → Kept r s → Accessed a r s v → next u ≡ a
+      → halted a r.spot.used (length r.script.now) ≡ false → At next resume old olds t u r → At next resume old olds t (resume u v) s
+  accessed r s a v k x due goes h =
+      moved_on (stands_next next resume r.frame r.script.now r.sent_words.now old olds t u r.spot r.log.now r.received_words.now h
+      a (get_or r.script.now r.spot.used 0) due goes refl (resume u v) s.spot s.log.now s.received_words.now
+      (omega (arith, h.size, x.fits)) (ap (resume u) x.told) x.made x.used x.received x.size x.logged x.placed)
+    where
+      moved_on : Stands next resume r.frame r.script.now r.sent_words.now old olds t (resume u v) s.spot s.log.now s.received_words.now
+          → At next resume old olds t (resume u v) s
+      moved_on y = rw (k.frame, k.script, k.sent_words) y
+
+  pub ended_full : (r : Running) (e : Ending) → At next resume old olds t u r → r.budget ≤ r.spot.made → e ≡ ending_of (next u)
+      → Ended next resume old olds t u e r
+  ended_full r e h m ee = record {
+    here = h;
+    last = last_full next resume r.frame r.script.now r.sent_words.now old olds t u r.spot r.log.now r.received_words.now h r.budget r.within m;
+    ending = ee;
+  }
+
+  pub ended_halted : (r : Running) (e : Ending) → At next resume old olds t u r
+      → halted (next u) r.spot.used (length r.script.now) ≡ true → e ≡ ending_of (next u) → Ended next resume old olds t u e r
+  ended_halted r e h stops ee = record {
+    here = h;
+    last = last_halted next resume r.frame r.script.now r.sent_words.now old olds t u r.spot r.log.now r.received_words.now h r.budget r.within stops;
+    ending = ee;
+  }
+
+pub kept_on : {r s u : Running} → Kept r s → Kept s u → Kept r u
+kept_on {r} {s} {u} h k = record {
+  frame = k.frame ∙ h.frame;
+  budget = k.budget ∙ h.budget;
+  script = k.script ∙ h.script;
+  sent_words = k.sent_words ∙ h.sent_words;
+  log = k.log ∙ h.log;
+  received_words = k.received_words ∙ h.received_words;
+}
+
+-- A TRANSFER THAT HAS ENDED
+module _ (f : Frame) (budget : ℕ) (script send old olds : List ℕ) (t u : Transfer) (e : Ending) (r : Running) where
+  abbrev come : State Transfer
+  come = words_states r.frame r.script.now r.sent_words.now olds t r.spot.made
+
+  spot_come : Ended due_access resumed old olds t u e r
+      → r.spot ≡ record { made = length come.log; used = come.used; received = stored come.received olds }
+  spot_come h =
+      ap₂ (λ (m n : ℕ). record { made = m; used = n; received = r.spot.received }) (sym h.here.pairs) (sym h.here.used)
+      ∙ ap (λ (g : ℕ). record { made = length come.log; used = come.used; received = g }) (sym h.here.got)
+
+  pub words_ended : r.frame ≡ f → r.budget ≡ budget → r.script.now ≡ script → r.sent_words.now ≡ send
+      → Ended due_access resumed old olds t u e r
+      → driven_left (record { ending = e; spot = r.spot }) r.log.now r.received_words.now
+      ≡ driven_by old olds (words_states f script send olds t budget)
+  unfolding driven_by
+  words_ended ef eb es en h =
+      ap₂ (λ (l w : List ℕ). driven_left (record { ending = e; spot = r.spot }) l w) h.here.held h.here.placed
+      ∙ ap₂ (λ (x : Ending) (p : Spot). driven_left (record { ending = x; spot = p }) (log_over old come.log) (laid come.received olds))
+      (h.ending ∙ ap (λ (g : Transfer). ending_of (due_access g)) (sym h.here.machine)) (spot_come h)
+      ∙ ap (driven_by old olds) (sym h.last)
+      ∙ ap (driven_by old olds) (rw (ef, eb, es, en))
 
 -- THE CALL: number 5, or the run
 module _ (t : Transfer) (f : Frame) (budget : ℕ) (script send log olds : List ℕ) where
   pub words_limits : limits budget log ≡ true
-      → driven_left (record { ending = Limits; spot = record { made = 0; used = 0; received = 0 } }) log olds
+      → driven_left (record { ending = Err Limits; spot = record { made = 0; used = 0; received = 0 } }) log olds
       ≡ words_run t f budget script send log olds
   unfolding words_run
   words_limits e = rw e
@@ -245,7 +293,7 @@ module _ (t : Transfer) (f : Frame) (budget : ℕ) (script send log olds : List 
 -- the words that are stored have places
 stored_fits : (b : Bool) (x : Driven) (log' words' log olds : List ℕ) (s : State Transfer)
     → driven_left x log' words'
-    ≡ cond b (driven_left (record { ending = Limits; spot = record { made = 0; used = 0; received = 0 } }) log olds) (driven_by log olds s)
+    ≡ cond b (driven_left (record { ending = Err Limits; spot = record { made = 0; used = 0; received = 0 } }) log olds) (driven_by log olds s)
     → x.spot.received ≤ length words'
 unfolding driven_by
 stored_fits true x log' words' log olds s e = let r = ap (λ (y : DrivenLeft). y.driven.spot.received) e in omega (arith, r)

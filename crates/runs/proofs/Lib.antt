@@ -7,6 +7,6 @@ pub mod Calls
 pub mod DriveLaws
 mod FlushLaws
 mod PlainLaws
-mod LoopLaws
+mod WordlessLaws
 mod CallRunLaws
 mod TurnLaws

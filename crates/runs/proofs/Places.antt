@@ -12,8 +12,9 @@ use Rattle.words.specs.declared.transaction.Direction.{Direction}
 use Rattle.words.specs.declared.transaction.Direction.TheVariants.{Tx, Rx}
 use Rattle.words.specs.declared.transaction.LpspiError.TheVariants.{Fifo}
 use Rattle.sequences.specs.declared.access.Access.TheVariants.{Done, Send as SendWord, Receive as ReceiveWord}
-use Rattle.sequences.specs.declared.access.Ending.{Ending}
-use Rattle.sequences.specs.declared.access.Ending.TheVariants.{Ok, Err, Stopped, Limits, ZeroClock, FifoExponent}
+use Rattle.sequences.specs.Access.{Ending}
+use Rattle.std.specs.Prelude.{Ok, Err}
+use Rattle.sequences.specs.declared.access.RunError.TheVariants.{Driver}
 use Rattle.sequences.specs.declared.driver.Lpspi.{Lpspi}
 use Rattle.machine.specs.declared.poll.Poll.TheVariants.{Status}
 use Rattle.machine.specs.declared.poll.Polled.{Polled}
@@ -32,12 +33,8 @@ use Rattle.runs.proofs.PlainLaws.{kind, plain_keeps, poll_plain, recovery_plain}
 
 -- what a phase knows: no word is done before TCR, a side that has its turn has words left, and Ok comes when all are done
 abbrev Final : Ending → Work → Type 0
-Final Ok w = (w.sent ≡ w.send) × (w.received ≡ w.receive)
+Final (Ok u) w = (w.sent ≡ w.send) × (w.received ≡ w.receive)
 Final (Err e) w = Unit {0}
-Final Stopped w = Unit {0}
-Final Limits w = Unit {0}
-Final ZeroClock w = Unit {0}
-Final FifoExponent w = Unit {0}
 
 abbrev pub Standing : Stage → Work → Type 0
 Standing (Space p) w = (w.sent ≡ 0) × (w.received ≡ 0)
@@ -62,7 +59,7 @@ send_turn_lem : (w : Work) → w.sent ≤ w.send → w.received ≤ w.receive �
 send_turn_lem w s r = by_test (ltb w.sent w.send) refl (ltb w.received w.receive) refl
   where
     by_test : (t : Bool) → ltb w.sent w.send ≡ t → (u : Bool) → ltb w.received w.receive ≡ u
-        → Standing (cond t (Sending Status) (cond u (Receiving Status) (Ended Ok))) w
+        → Standing (cond t (Sending Status) (cond u (Receiving Status) (Ended (Ok tt)))) w
     by_test true t u e = ltb-true w.sent w.send t
     by_test false t true e = ltb-true w.received w.receive e
     by_test false t false e = omega (arith, ltb-false w.sent w.send t, ltb-false w.received w.receive e)
@@ -71,7 +68,7 @@ receive_turn_lem : (w : Work) → w.sent ≤ w.send → w.received ≤ w.receive
 receive_turn_lem w s r = by_test (ltb w.received w.receive) refl (ltb w.sent w.send) refl
   where
     by_test : (t : Bool) → ltb w.received w.receive ≡ t → (u : Bool) → ltb w.sent w.send ≡ u
-        → Standing (cond t (Receiving Status) (cond u (Sending Status) (Ended Ok))) w
+        → Standing (cond t (Receiving Status) (cond u (Sending Status) (Ended (Ok tt)))) w
     by_test true t u e = ltb-true w.received w.receive t
     by_test false t true e = ltb-true w.sent w.send e
     by_test false t false e = omega (arith, ltb-false w.received w.receive t, ltb-false w.sent w.send e)
@@ -97,7 +94,7 @@ receiving_turn (Next p) w s r h = h
 receiving_turn Ready w s r h = h
 receiving_turn Unready w s r h = send_turn_lem w s r
 
-recovery_turn : (t : Bool) (d : Direction) (w : Work) → Standing (cond t (Ended (Err (Fifo d))) (Recovery d)) w
+recovery_turn : (t : Bool) (d : Direction) (w : Work) → Standing (cond t (Ended (Err (Driver (Fifo d)))) (Recovery d)) w
 recovery_turn true d w = tt
 recovery_turn false d w = tt
 
@@ -188,7 +185,7 @@ pub record InOrder (send receive : ℕ) (s : State Transfer) : Type 0 where
   pub held : length s.received ≡ s.machine.work.received
   pub sends : (i : ℕ) → due_access s.machine ≡ SendWord i → (i ≡ s.machine.work.sent) × (i < send)
   pub receives : (i : ℕ) → due_access s.machine ≡ ReceiveWord i → (i ≡ s.machine.work.received) × (i < receive)
-  pub all : due_access s.machine ≡ Done Ok → (s.machine.work.sent ≡ send) × (s.machine.work.received ≡ receive)
+  pub all : due_access s.machine ≡ Done (Ok tt) → (s.machine.work.sent ≡ send) × (s.machine.work.received ≡ receive)
 
 due_send : (p : Stage) (w : Work) (r : Sequence) (i : ℕ) → Standing p w → due_access (at p w r) ≡ SendWord i → (i ≡ w.sent) × (i < w.send)
 unfolding due_access
@@ -238,7 +235,7 @@ in_order send receive s h =
       held = h.holds;
       sends = λ (i : ℕ) (e : due_access s.machine ≡ SendWord i). omega (arith, due_send p w r i h.turn e);
       receives = λ (i : ℕ) (e : due_access s.machine ≡ ReceiveWord i). omega (arith, due_receive p w r i h.turn e);
-      all = λ (e : due_access s.machine ≡ Done Ok). omega (arith, subst (λ (q : Stage). Standing q w) (done_phase p w r Ok e) h.turn);
+      all = λ (e : due_access s.machine ≡ Done (Ok tt)). omega (arith, subst (λ (q : Stage). Standing q w) (done_phase p w r (Ok tt) e) h.turn);
     }
 
 pub start_placed : (d : Lpspi) (command send receive : ℕ) → Placed send receive (start_transfer d command send receive) 0

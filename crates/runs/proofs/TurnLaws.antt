@@ -1,16 +1,16 @@
 -- Whole turns stay with the run: the three reads of a poll, said once over the phase that holds the poll, and the access after it.
 -- Assumes nothing.
 use Prim.Native.Nat.{ℕ, ◌+◌, ◌*◌, ◌<◌, ◌≤◌}
-use mathlib.Core.Bool.{Bool, true, false, cond}
+use mathlib.Core.Bool.{Bool, true, false, cond, not}
 use mathlib.Core.List.{List}
-use mathlib.Core.Path.{◌≡◌, refl, sym, ap, ◌∙◌, subst}
-use native.Mathlib.Nat.{add-zero}
+use mathlib.Core.Path.{◌≡◌, refl, sym, ap, ap₂, ◌∙◌, subst}
 use native.Mathlib.Omega.{arith}
 use lib.Dec.{ltb}
 use lib.ListN.{length, get_or, set, length-set}
-use borrow.Author.Tests.{lt-leb, lt-ltb, ltb-true}
+use borrow.Author.Tests.{lt-leb, lt-ltb, le-ltb}
+use Rattle.std.specs.Prelude.{Option, None, Some, is_some}
 use Rattle.manual.specs.declared.Register.{Register}
-use Rattle.manual.specs.declared.Register.TheVariants.{SR, PARAM, FSR, TCR, TDR, RDR}
+use Rattle.manual.specs.declared.Register.TheVariants.{SR, PARAM, FSR, TCR}
 use Rattle.manual.specs.Manual.{offset_of}
 use Rattle.words.specs.declared.transaction.Direction.{Direction}
 use Rattle.words.specs.declared.transaction.Direction.TheVariants.{Tx, Rx}
@@ -23,23 +23,20 @@ use Rattle.machine.specs.declared.transfer.Stage.TheVariants.{Space, Command, Se
 use Rattle.machine.specs.declared.transfer.Work.{Work}
 use Rattle.machine.specs.declared.transfer.Transfer.{Transfer}
 use Rattle.machine.specs.declared.poll.Polled.{Polled}
-use Rattle.machine.specs.declared.poll.Polled.TheVariants.{Next, Ready as PollReady, Unready as PollUnready}
+use Rattle.machine.specs.declared.poll.Polled.TheVariants.{Next, Ready, Unready}
 use Rattle.machine.specs.Poll.{poll_access, polled}
-use Rattle.machine.specs.Transfer.{at, counted, worked, turn_at, send_turn, receive_turn, space_by}
-use Rattle.machine.specs.Transfer.{sending_by, receiving_by, at_start, due_access, resumed}
+use Rattle.machine.specs.Transfer.{at, worked, turn_at, send_turn, receive_turn, space_by}
+use Rattle.machine.specs.Transfer.{sending_by, receiving_by, due_access, resumed}
 use Rattle.machine.proofs.PollLaws.{Settled, settled_ready, settled_unready}
 use Rattle.runs.specs.declared.drive.Frame.{Frame}
-use Rattle.runs.specs.declared.fast.turns.Count.{Count}
-use Rattle.runs.specs.declared.fast.turns.Turns.{Turns}
-use Rattle.runs.specs.declared.fast.turns.Shown.{Shown}
-use Rattle.runs.specs.declared.fast.ahead.Spaced.{Spaced}
+use Rattle.runs.specs.declared.drive.Spot.{Spot}
+use Rattle.runs.specs.declared.fast.turns.Plan.{Plan}
 use Rattle.runs.specs.declared.fast.turns.Turn.{Turn}
-use Rattle.runs.specs.declared.fast.turns.Turn.TheVariants.{Made}
+use Rattle.runs.specs.declared.running.Running.{Running}
 use Rattle.runs.specs.Run.{put}
-use Rattle.runs.specs.Drive.{word_in, Stands}
-use Rattle.runs.specs.Turns.{spot, put_poll, Whole, Looked, other_side, same_side, has_more}
-use Rattle.runs.specs.Turns.{due_side, is_due, Within, Onward, Turned, Waited}
-use Rattle.runs.proofs.DriveLaws.{stands_next, stands_start}
+use Rattle.runs.specs.Running.{Stands, At, Kept, Accessed, Still}
+use Rattle.runs.specs.Turns.{spot, put_poll, ready_or, Whole, turn, Onward, commanded}
+use Rattle.runs.proofs.DriveLaws.{stands_next, moved, accessed}
 
 length_put : (log : List ℕ) (made at v : ℕ) → length (put log made at v) ≡ length log
 length_put log made at v = length-set (set log (2 * made) at) (2 * made + 1) v ∙ length-set log (2 * made) at
@@ -54,12 +51,12 @@ receives w e = rw e
 module _ (f : Frame) (script send old olds : List ℕ) (m : Transfer) where
   -- ONE READ
   stands_read : (u u' : Transfer) (g : Register) (made used made' used' got : ℕ) (log words : List ℕ)
-      → Stands f script send old olds m u (spot made used got) log words
+      → Stands due_access resumed f script send old olds m u (spot made used got) log words
       → due_access u ≡ Read g → used < length script → 2 * made + 1 < length old → made' ≡ made + 1 → used' ≡ used + 1
       → resumed u (get_or script used 0) ≡ u'
-      → Stands f script send old olds m u' (spot made' used' got) (put log made (offset_of g) (get_or script used 0)) words
+      → Stands due_access resumed f script send old olds m u' (spot made' used' got) (put log made (offset_of g) (get_or script used 0)) words
   stands_read u u' g made used made' used' got log words h e l r em es n =
-      stands_next f script send old olds m u (spot made used got) log words h (Read g) (get_or script used 0) e
+      stands_next due_access resumed f script send old olds m u (spot made used got) log words h (Read g) (get_or script used 0) e
       (lt-leb (length script) used l) refl
       u' (spot made' used' got) (put log made (offset_of g) (get_or script used 0)) words r (sym n) em es refl
       (length_put log made (offset_of g) (get_or script used 0)) refl refl
@@ -84,10 +81,10 @@ module _ (f : Frame) (script send old olds : List ℕ) (m : Transfer) where
     goes_on : (q q' : Poll) (v : ℕ) → polled d q v ≡ Next q' → resumed (at (stage q) w r) v ≡ at (stage q') w r
     goes_on q q' v e = comes_to q v (Next q') e ∙ ap (λ (g : Stage). at g w r) (next q')
 
-    stands_poll : Stands f script send old olds m (at (stage Status) w r) (spot made used got) log words
+    stands_poll : Stands due_access resumed f script send old olds m (at (stage Status) w r) (spot made used got) log words
         → used + 3 ≤ length script → 2 * (made + 3) ≤ length old
         → Settled d status param counts x
-        → Stands f script send old olds m (at (by x) w r) (spot (made + 3) (used + 3) got)
+        → Stands due_access resumed f script send old olds m (at (by x) w r) (spot (made + 3) (used + 3) got)
         (put_poll log made status param counts) words
     stands_poll h l room s =
         let log₁ = put log made (offset_of SR) status in
@@ -101,283 +98,178 @@ module _ (f : Frame) (script send old olds : List ℕ) (m : Transfer) where
         stands_read (at (stage (Counts param)) w r) (at (by x) w r) FSR (made + 2) (used + 2) (made + 3) (used + 3) got log₂ words h₂
         (due (Counts param)) (omega arith) (omega arith) (omega arith) (omega arith) (comes_to (Counts param) counts x s.third)
 
-    -- as the code made it
-    stands_whole : (budget : ℕ) (log' : List ℕ) → 2 * budget ≤ length log → Whole d made used budget script log log' x
-        → Settled d status param counts x
-        → Stands f script send old olds m (at (stage Status) w r) (spot made used got) log words
-        → Stands f script send old olds m (at (by x) w r) (spot (made + 3) (used + 3) got) log' words
-    stands_whole budget log' wide whole s h =
-        subst (λ (l : List ℕ). Stands f script send old olds m (at (by x) w r) (spot (made + 3) (used + 3) got) l words)
-        (sym whole.logged)
-        (stands_poll h (omega (arith, whole.answers)) (omega (arith, whole.room, h.size)) s)
+-- what the code holds goes by the script's answers
+abbrev Answers : Direction → Running → Polled → Type 0
+Answers d r x =
+    Settled d (get_or r.script.now r.spot.used 0) (get_or r.script.now (r.spot.used + 1) 0) (get_or r.script.now (r.spot.used + 2) 0) x
 
-  module _ (budget made used got : ℕ) (log log' words : List ℕ) (wide : 2 * budget ≤ length log) (w : Work) (r : Sequence) where
-    space_polled : (x : Polled) → Whole Tx made used budget script log log' x
-        → Settled Tx (get_or script used 0) (get_or script (used + 1) 0) (get_or script (used + 2) 0) x
-        → Stands f script send old olds m (at (Space Status) w r) (spot made used got) log words
-        → Stands f script send old olds m (at (space_by x) w r) (spot (made + 3) (used + 3) got) log' words
-    unfolding due_access resumed
-    space_polled x = stands_whole Tx Space space_by w r x (λ q. refl) (λ q v. refl) (λ q. refl) made used got log words budget log' wide
+-- THE POLLS, as the code makes them
+module _ (old olds : List ℕ) (m : Transfer) (r s : Running) (k : Kept r s) (w : Work) (q : Sequence) where
+  abbrev From : Stage → Type 0
+  From p = At due_access resumed old olds m (at p w q) r
 
-    sending_polled : (x : Polled) → Whole Tx made used budget script log log' x
-        → Settled Tx (get_or script used 0) (get_or script (used + 1) 0) (get_or script (used + 2) 0) x
-        → Stands f script send old olds m (at (Sending Status) w r) (spot made used got) log words
-        → Stands f script send old olds m (at (sending_by w x) w r) (spot (made + 3) (used + 3) got) log' words
-    unfolding due_access resumed
-    sending_polled x =
-        stands_whole Tx Sending (sending_by w) w r x (λ q. refl) (λ q v. refl) (λ q. refl) made used got log words budget log' wide
+  abbrev To : Stage → Type 0
+  To p = At due_access resumed old olds m (at p w q) s
 
-    receiving_polled : (x : Polled) → Whole Rx made used budget script log log' x
-        → Settled Rx (get_or script used 0) (get_or script (used + 1) 0) (get_or script (used + 2) 0) x
-        → Stands f script send old olds m (at (Receiving Status) w r) (spot made used got) log words
-        → Stands f script send old olds m (at (receiving_by w x) w r) (spot (made + 3) (used + 3) got) log' words
-    unfolding due_access resumed
-    receiving_polled x =
-        stands_whole Rx Receiving (receiving_by w) w r x (λ q. refl) (λ q v. refl) (λ q. refl) made used got
-        log words budget log' wide
+  by_poll : (d : Direction) (stage : Poll → Stage) (by : Polled → Stage) (x : Polled)
+      → ((y : Poll) → due_access (at (stage y) w q) ≡ poll_access y)
+      → ((y : Poll) (v : ℕ) → resumed (at (stage y) w q) v ≡ at (by (polled d y v)) w q)
+      → ((y : Poll) → by (Next y) ≡ stage y) → Whole d r s x → Answers d r x → From (stage Status) → To (by x)
+  by_poll d stage by x due after next whole settled h =
+      moved due_access resumed old olds m (at (by x) w q) r s _ _ _ k whole.moved whole.logged whole.placed
+      (stands_poll r.frame r.script.now r.sent_words.now old olds m d stage by w q x due after next r.spot.made r.spot.used
+      r.spot.received r.log.now r.received_words.now h (omega (arith, whole.answers)) (omega (arith, whole.room, h.size, r.room)) settled)
 
-    -- no place yet for the command
-    pub space_waits : Whole Tx made used budget script log log' PollUnready
-        → Stands f script send old olds m (at (Space Status) w r) (spot made used got) log words
-        → Stands f script send old olds m (at (Space Status) w r) (spot (made + 3) (used + 3) got) log' words
-    space_waits whole h = space_polled PollUnready whole (settled_unready Tx _ _ _ whole.shown) h
+  space_polled : (x : Polled) → Whole Tx r s x → Answers Tx r x → From (Space Status) → To (space_by x)
+  unfolding due_access resumed
+  space_polled x = by_poll Tx Space space_by x (λ y. refl) (λ y v. refl) (λ y. refl)
 
-    -- THE COMMAND
-    pub space_commands : (log'' : List ℕ) → Whole Tx made used budget script log log' PollReady
-        → log'' ≡ put log' (made + 3) (0x1000 + offset_of TCR) w.command
-        → Stands f script send old olds m (at (Space Status) w r) (spot made used got) log words
-        → Stands f script send old olds m (at (send_turn w) w r) (spot (made + 4) (used + 3) got) log'' words
-    unfolding due_access resumed
-    space_commands log'' whole el h =
-        stands_next f script send old olds m (at Command w r) (spot (made + 3) (used + 3) got) log' words
-        (space_polled PollReady whole (settled_ready Tx _ _ _ whole.shown) h) (Write TCR w.command)
-        (get_or script (used + 3) 0) refl refl refl
-        (at (send_turn w) w r) (spot (made + 4) (used + 3) got) log'' words (omega (arith, whole.room, h.size)) refl
-        (omega arith) (sym (add-zero (used + 3))) refl
-        (ap length el ∙ length_put log' (made + 3) (0x1000 + offset_of TCR) w.command) el refl
+  sending_polled : (x : Polled) → Whole Tx r s x → Answers Tx r x → From (Sending Status) → To (sending_by w x)
+  unfolding due_access resumed
+  sending_polled x = by_poll Tx Sending (sending_by w) x (λ y. refl) (λ y v. refl) (λ y. refl)
 
-  -- THE TURNS
-  module _ (n : Count) (en : m.work.send ≡ n.send) (er : m.work.receive ≡ n.receive) (budget made used got sent : ℕ)
-      (log log' words : List ℕ) (wide : 2 * budget ≤ length log) where
-    abbrev w : Work
-    w = worked sent got m.work
+  receiving_polled : (x : Polled) → Whole Rx r s x → Answers Rx r x → From (Receiving Status) → To (receiving_by w x)
+  unfolding due_access resumed
+  receiving_polled x = by_poll Rx Receiving (receiving_by w) x (λ y. refl) (λ y v. refl) (λ y. refl)
 
-    abbrev r : Sequence
-    r = m.reset
+  -- no place yet for the command, or one
+  pub space_waits : Whole Tx r s Unready → From (Space Status) → To (Space Status)
+  space_waits whole h = space_polled Unready whole (settled_unready Tx _ _ _ whole.shown) h
 
-    more_to_send : ltb sent n.send ≡ true → ltb sent m.work.send ≡ true
-    more_to_send e = ap (ltb sent) en ∙ e
+  pub space_found : Whole Tx r s Ready → From (Space Status) → To Command
+  space_found whole h = space_polled Ready whole (settled_ready Tx _ _ _ whole.shown) h
 
-    more_to_receive : ltb got n.receive ≡ true → ltb got m.work.receive ≡ true
-    more_to_receive e = ap (ltb got) er ∙ e
+  -- the other side's turn, or the word
+  sending_waits : Whole Tx r s Unready → From (Sending Status) → To (receive_turn w)
+  sending_waits whole h = sending_polled Unready whole (settled_unready Tx _ _ _ whole.shown) h
 
-    at_sending : ltb sent n.send ≡ true → Stands f script send old olds m (turn_at Tx sent got m) (spot made used got) log words
-        → Stands f script send old olds m (at (Sending Status) w r) (spot made used got) log words
-    at_sending e h =
-        subst (λ (p : Stage). Stands f script send old olds m (at p w r) (spot made used got) log words)
-        (sends w (more_to_send e)) h
+  sending_found : Whole Tx r s Ready → From (Sending Status) → To Send
+  sending_found whole h = sending_polled Ready whole (settled_ready Tx _ _ _ whole.shown) h
 
-    at_receiving : ltb got n.receive ≡ true → Stands f script send old olds m (turn_at Rx sent got m) (spot made used got) log words
-        → Stands f script send old olds m (at (Receiving Status) w r) (spot made used got) log words
-    at_receiving e h =
-        subst (λ (p : Stage). Stands f script send old olds m (at p w r) (spot made used got) log words)
-        (receives w (more_to_receive e)) h
+  receiving_waits : Whole Rx r s Unready → From (Receiving Status) → To (send_turn w)
+  receiving_waits whole h = receiving_polled Unready whole (settled_unready Rx _ _ _ whole.shown) h
 
-    -- a poll that is not PollReady
-    pub turn_waits : (d : Direction) → has_more d n sent got ≡ true → Whole d made used budget script log log' PollUnready
-        → Stands f script send old olds m (turn_at d sent got m) (spot made used got) log words
-        → Stands f script send old olds m (turn_at (other_side d) sent got m) (spot (made + 3) (used + 3) got) log' words
-    turn_waits Tx e whole h =
-        sending_polled budget made used got log log' words wide w r PollUnready whole
-        (settled_unready Tx _ _ _ whole.shown) (at_sending e h)
-    turn_waits Rx e whole h =
-        receiving_polled budget made used got log log' words wide w r PollUnready whole
-        (settled_unready Rx _ _ _ whole.shown) (at_receiving e h)
+  receiving_found : Whole Rx r s Ready → From (Receiving Status) → To Receive
+  receiving_found whole h = receiving_polled Ready whole (settled_ready Rx _ _ _ whole.shown) h
 
-    -- a word is sent
-    pub turn_sends : (log'' : List ℕ) → ltb sent n.send ≡ true → Whole Tx made used budget script log log' PollReady
-        → log'' ≡ put log' (made + 3) (0x1000 + offset_of TDR) (word_in f send words got sent)
-        → Stands f script send old olds m (turn_at Tx sent got m) (spot made used got) log words
-        → Stands f script send old olds m (turn_at Tx (sent + 1) got m) (spot (made + 4) (used + 3) got) log'' words
-    unfolding due_access resumed
-    turn_sends log'' e whole el h =
-        let h₁ =
-        sending_polled budget made used got log log' words wide w r PollReady whole
-        (settled_ready Tx _ _ _ whole.shown) (at_sending e h) in
-        let one : sent + 1 ≡ cond (ltb sent m.work.send) (sent + 1) sent = rw (more_to_send e) in
-        stands_next f script send old olds m (at Send w r) (spot (made + 3) (used + 3) got) log' words h₁ (SendWord sent)
-        (get_or script (used + 3) 0) refl refl refl
-        (turn_at Tx (sent + 1) got m) (spot (made + 4) (used + 3) got) log'' words (omega (arith, whole.room, h.size))
-        (ap (λ (x : ℕ). turn_at Tx x got m) one) (omega arith) (sym (add-zero (used + 3))) refl
-        (ap length el ∙ length_put log' (made + 3) (0x1000 + offset_of TDR) (word_in f send words got sent)) el refl
+-- THE COMMAND
+pub space_commands : (old olds : List ℕ) (m : Transfer) (r s : Running) (v : ℕ) (w : Work) (q : Sequence) → Kept r s
+    → Accessed (Write TCR w.command) r s v → At due_access resumed old olds m (at Command w q) r
+    → At due_access resumed old olds m (at (send_turn w) w q) s
+unfolding due_access resumed
+space_commands old olds m r s v w q k x h =
+    accessed due_access resumed old olds m (at Command w q) r s (Write TCR w.command) v k x refl refl h
 
-    -- a word is received
-    pub turn_receives : (log'' words' : List ℕ) → ltb got n.receive ≡ true → got < length words
-        → Whole Rx made used budget script log log' PollReady
-        → log'' ≡ put log' (made + 3) (offset_of RDR) (get_or script (used + 3) 0) → words' ≡ set words got (get_or script (used + 3) 0)
-        → Stands f script send old olds m (turn_at Rx sent got m) (spot made used got) log words
-        → Stands f script send old olds m (turn_at Rx sent (got + 1) m) (spot (made + 4) (used + 4) (got + 1)) log'' words'
-    unfolding due_access resumed
-    turn_receives log'' words' e place whole el ew h =
-        let h₁ =
-        receiving_polled budget made used got log log' words wide w r PollReady whole
-        (settled_ready Rx _ _ _ whole.shown) (at_receiving e h) in
-        let one : got + 1 ≡ cond (ltb got m.work.receive) (got + 1) got = rw (more_to_receive e) in
-        stands_next f script send old olds m (at Receive w r) (spot (made + 3) (used + 3) got) log' words h₁ (ReceiveWord got)
-        (get_or script (used + 3) 0) refl (lt-leb (length script) (used + 3) (omega (arith, whole.answers))) refl
-        (turn_at Rx sent (got + 1) m) (spot (made + 4) (used + 4) (got + 1)) log'' words' (omega (arith, whole.room, h.size))
-        (ap (λ (x : ℕ). turn_at Rx sent x m) one) (omega arith) (omega arith) (rw (lt-ltb got (length words) place))
-        (ap length el ∙ length_put log' (made + 3) (offset_of RDR) (get_or script (used + 3) 0)) el ew
+-- THE TURNS, of a transfer with these counts
+module _ (p : Plan) (r : Running) where
+  abbrev here : Transfer → ℕ → Work
+  here m sent = worked sent r.spot.received m.work
 
-    -- a side that has ended is passed over
-    pub turn_passes : (d : Direction) → turn_at d sent got m ≡ turn_at (due_side d n sent got) sent got m
-    turn_passes Tx = by_test (ltb sent n.send) refl
-      where
-        by_test : (b : Bool) → ltb sent n.send ≡ b → turn_at Tx sent got m ≡ turn_at (cond b Tx Rx) sent got m
-        by_test true e = refl
-        by_test false e = rw (ap (ltb sent) en ∙ e)
-    turn_passes Rx = by_test (ltb got n.receive) refl
-      where
-        by_test : (b : Bool) → ltb got n.receive ≡ b → turn_at Rx sent got m ≡ turn_at (cond b Rx Tx) sent got m
-        by_test true e = refl
-        by_test false e = rw (ap (ltb got) er ∙ e)
+  at_sending : (old olds : List ℕ) (m : Transfer) (sent : ℕ) → m.work.send ≡ p.send → sent < p.send
+      → At due_access resumed old olds m (turn_at Tx sent r.spot.received m) r
+      → At due_access resumed old olds m (at (Sending Status) (here m sent) m.reset) r
+  at_sending old olds m sent es l h =
+      subst (λ (g : Stage). At due_access resumed old olds m (at g (here m sent) m.reset) r)
+      (sends (here m sent) (ap (ltb sent) es ∙ lt-ltb sent p.send l)) h
 
--- what a turn promises, from the poll and the callee that made it
-module _ (f : Frame) (script send : List ℕ) (n : Count) (budget : ℕ) (t : Turns) (log log' words : List ℕ)
-    (wide : 2 * budget ≤ length log) (in' : Within budget (length words) t) where
-  pub made_waits : has_more t.side n t.sent t.spot.received ≡ true
-      → Whole t.side t.spot.made t.spot.used budget script log log' PollUnready
-      → Turned f script send n budget t log words log' words
-      (Made
-      (record
-      { side = other_side t.side; sent = t.sent; spot = spot (t.spot.made + 3) (t.spot.used + 3) t.spot.received }))
-  made_waits e whole = (
-    omega arith,
-    record {
-      made = omega (arith, whole.room);
-      used = omega (arith, in'.used);
-      sent = omega (arith, in'.sent);
-      received = in'.received;
-    },
-    λ m old olds en er h.
-        turn_waits f script send old olds m n en er budget t.spot.made t.spot.used t.spot.received t.sent log log'
-        words wide t.side e whole h,
-  )
+  at_receiving : (old olds : List ℕ) (m : Transfer) (sent : ℕ) → m.work.receive ≡ p.receive → r.spot.received < p.receive
+      → At due_access resumed old olds m (turn_at Rx sent r.spot.received m) r
+      → At due_access resumed old olds m (at (Receiving Status) (here m sent) m.reset) r
+  at_receiving old olds m sent er l h =
+      subst (λ (g : Stage). At due_access resumed old olds m (at g (here m sent) m.reset) r)
+      (receives (here m sent) (ap (ltb r.spot.received) er ∙ lt-ltb r.spot.received p.receive l)) h
 
-  pub made_sends : (log'' : List ℕ) → t.side ≡ Tx → ltb t.sent n.send ≡ true
-      → Whole Tx t.spot.made t.spot.used budget script log log' PollReady
-      → log'' ≡ put log' (t.spot.made + 3) (0x1000 + offset_of TDR) (word_in f send words t.spot.received t.sent)
-      → Turned f script send n budget t log words log'' words
-      (Made
-      (record { side = t.side; sent = t.sent + 1; spot = spot (t.spot.made + 4) (t.spot.used + 3) t.spot.received }))
-  made_sends log'' es e whole el = (
-    omega arith,
-    record {
-      made = omega (arith, whole.room);
-      used = omega (arith, in'.used);
-      sent = omega (arith, in'.sent);
-      received = in'.received;
-    },
-    λ m old olds en er h.
-        subst
-        (λ (d : Direction).
-        Stands f script send old olds m (turn_at d (t.sent + 1) t.spot.received m)
-        (spot (t.spot.made + 4) (t.spot.used + 3) t.spot.received) log'' words)
-        (sym es)
-        (turn_sends f script send old olds m n en er budget t.spot.made t.spot.used t.spot.received t.sent log
-        log' words wide log'' e whole el
-        (subst (λ (d : Direction). Stands f script send old olds m (turn_at d t.sent t.spot.received m) t.spot log words) es h)),
-  )
+  -- a turn, where the words received are counted as they were
+  same_turn : (old olds : List ℕ) (m : Transfer) (s : Running) (d : Direction) (sent : ℕ) → s.spot.received ≡ r.spot.received
+      → At due_access resumed old olds m (turn_at d sent r.spot.received m) s
+      → At due_access resumed old olds m (turn_at d sent s.spot.received m) s
+  same_turn old olds m s d sent e h = subst (λ (g : ℕ). At due_access resumed old olds m (turn_at d sent g m) s) (sym e) h
 
-  pub made_receives : (log'' words' : List ℕ) → t.side ≡ Rx → ltb t.spot.received n.receive ≡ true
-      → n.receive ≤ length words → Whole Rx t.spot.made t.spot.used budget script log log' PollReady
-      → log'' ≡ put log' (t.spot.made + 3) (offset_of RDR) (get_or script (t.spot.used + 3) 0)
-      → words' ≡ set words t.spot.received (get_or script (t.spot.used + 3) 0)
-      → Turned f script send n budget t log words log'' words'
-      (Made
-      (record {
-        side = t.side;
-        sent = t.sent;
-        spot = spot (t.spot.made + 4) (t.spot.used + 4) (counted t.spot.received (length words));
-      }))
-  made_receives log'' words' es e places whole el ew =
-      let got = t.spot.received in
-      let place : got < length words = omega (arith, ltb-true got n.receive e) in
-      let one : counted got (length words) ≡ got + 1 = rw (lt-ltb got (length words) place) in
-      rw one (
-        omega arith,
-        record {
-          made = omega (arith, whole.room);
-          used = omega (arith, in'.used);
-          sent = omega (arith, in'.sent);
-          received = omega (arith, place);
-        },
-        λ m old olds en er h.
-            subst
-            (λ (d : Direction).
-            Stands f script send old olds m (turn_at d t.sent (got + 1) m)
-            (spot (t.spot.made + 4) (t.spot.used + 4) (got + 1)) log'' words')
-            (sym es)
-            (turn_receives f script send old olds m n en er budget t.spot.made t.spot.used got t.sent log log' words
-            wide log'' words' e place whole el ew
-            (subst (λ (d : Direction). Stands f script send old olds m (turn_at d t.sent got m) t.spot log words) es h)),
-      )
+  -- nothing was done
+  pub turn_still : (s : Running) (t : Turn) → Kept r s → Still r s → Onward p t r t s
+  turn_still s t k still m old olds es er h =
+      same_turn old olds m s t.side t.sent (ap (λ (x : Spot). x.received) still.moved)
+      (moved due_access resumed old olds m (turn_at t.side t.sent r.spot.received m) r s _ _ _ k
+      still.moved still.logged still.placed h)
 
--- from turn to turn
-module _ (f : Frame) (script send : List ℕ) (n : Count) where
-  pub onward_passed : (t u v : Turns) (log₀ words₀ log words : List ℕ)
-      → v ≡ record { side = due_side u.side n u.sent u.spot.received; sent = u.sent; spot = u.spot }
-      → Onward f script send n t log₀ words₀ u log words → Onward f script send n t log₀ words₀ v log words
-  onward_passed t u v log₀ words₀ log words e k =
-      subst (λ (x : Turns). Onward f script send n t log₀ words₀ x log words) (sym e)
-      (λ m old olds en er h.
-      subst (λ (x : Transfer). Stands f script send old olds m x u.spot log words)
-      (turn_passes f script send old olds m n en er 0 0 0 u.spot.received u.sent log log words (omega arith) u.side)
-      (k m old olds en er h))
+  -- a poll that is not ready
+  pub send_waits : (s : Running) (sent : ℕ) → Kept r s → sent < p.send → Whole Tx r s Unready → Onward p (turn Tx sent) r (turn Rx sent) s
+  send_waits s sent k l whole m old olds es er h =
+      same_turn old olds m s Rx sent (ap (λ (x : Spot). x.received) whole.moved)
+      (sending_waits old olds m r s k (here m sent) m.reset whole (at_sending old olds m sent es l h))
 
-pub within_passed : (n : Count) (budget places : ℕ) (u v : Turns)
-    → v ≡ record { side = due_side u.side n u.sent u.spot.received; sent = u.sent; spot = u.spot }
-    → Within budget places u → Within budget places v
-within_passed n budget places u v e h =
-    subst (Within budget places) (sym e) (record { made = h.made; used = h.used; sent = h.sent; received = h.received })
+  pub receive_waits : (s : Running) (sent : ℕ) → Kept r s → r.spot.received < p.receive → Whole Rx r s Unready
+      → Onward p (turn Rx sent) r (turn Tx sent) s
+  receive_waits s sent k l whole m old olds es er h =
+      same_turn old olds m s Tx sent (ap (λ (x : Spot). x.received) whole.moved)
+      (receiving_waits old olds m r s k (here m sent) m.reset whole (at_receiving old olds m sent er l h))
 
-pub as_look : (d : Direction) (made used budget : ℕ) (script log log' : List ℕ) (r r' : Shown) → r ≡ r'
-    → Looked d made used budget script log log' r → Looked d made used budget script log log' r'
-as_look d made used budget script log log' r r' e h = subst (Looked d made used budget script log log') e h
+  -- a word is sent
+  pub send_goes : (s u : Running) (v sent : ℕ) → Kept r s → Kept s u → sent < p.send → Whole Tx r s Ready → Accessed (SendWord sent) s u v
+      → Onward p (turn Tx sent) r (turn Tx (sent + 1)) u
+  unfolding due_access resumed
+  send_goes s u v sent k k' l whole x m old olds es er h =
+      let h' = sending_found old olds m r s k (here m sent) m.reset whole (at_sending old olds m sent es l h) in
+      let one : sent + 1 ≡ cond (ltb sent m.work.send) (sent + 1) sent = rw (ap (ltb sent) es ∙ lt-ltb sent p.send l) in
+      let got : u.spot.received ≡ r.spot.received = x.received ∙ ap (λ (y : Spot). y.received) whole.moved in
+      subst (λ (y : Transfer). At due_access resumed old olds m y u)
+      (sym (ap₂ (λ (i g : ℕ). turn_at Tx i g m) one got))
+      (accessed due_access resumed old olds m (at Send (here m sent) m.reset) s u (SendWord sent) v k' x refl refl h')
 
-pub due_side_lem : (d : Direction) (n : Count) (t : Turns) → is_due d n t ≡ true
-    → (t.side ≡ d) × (has_more d n t.sent t.spot.received ≡ true)
-due_side_lem d n t e = by_sides d t.side (has_more d n t.sent t.spot.received) e
-  where
-    by_sides : (x y : Direction) (b : Bool) → cond (same_side x y) b false ≡ true → (y ≡ x) × (b ≡ true)
-    by_sides Tx Tx b h = (refl, h)
-    by_sides Tx Rx b h = (cc, cc)
-    by_sides Rx Tx b h = (cc, cc)
-    by_sides Rx Rx b h = (refl, h)
+  -- a word is received
+  pub receive_goes : (s u : Running) (v sent : ℕ) → Kept r s → Kept s u → r.spot.received < p.receive
+      → r.spot.received < length r.received_words.now → Whole Rx r s Ready → Accessed (ReceiveWord s.spot.received) s u v
+      → Onward p (turn Rx sent) r (turn Rx sent) u
+  unfolding due_access resumed
+  receive_goes s u v sent k k' l place whole x m old olds es er h =
+      let h' = receiving_found old olds m r s k (here m sent) m.reset whole (at_receiving old olds m sent er l h) in
+      let same : s.spot.received ≡ r.spot.received = ap (λ (y : Spot). y.received) whole.moved in
+      let used : s.spot.used ≡ r.spot.used + 3 = ap (λ (y : Spot). y.used) whole.moved in
+      let fits : s.spot.used < length s.script.now = omega (arith, used, whole.answers, ap length k.script) in
+      let stored : s.spot.received < length s.received_words.now = omega (arith, same, place, ap length whole.placed) in
+      let one : s.spot.received + 1 ≡ cond (ltb r.spot.received m.work.receive) (r.spot.received + 1) r.spot.received =
+      rw (same, ap (ltb r.spot.received) er ∙ lt-ltb r.spot.received p.receive l) refl in
+      let got : u.spot.received ≡ s.spot.received + 1 =
+      x.received ∙ rw (lt-ltb s.spot.received (length s.received_words.now) stored) refl in
+      subst (λ (y : Transfer). At due_access resumed old olds m y u)
+      (sym (ap (λ (g : ℕ). turn_at Rx sent g m) (got ∙ one)))
+      (accessed due_access resumed old olds m (at Receive (here m sent) m.reset) s u (ReceiveWord s.spot.received) v k' x
+      (ap (λ (g : ℕ). ReceiveWord g) (sym same)) (lt-leb (length s.script.now) s.spot.used fits) h')
 
-pub as_turn : (f : Frame) (script send : List ℕ) (n : Count) (budget : ℕ) (t : Turns)
-    (log words log' words' : List ℕ) (r r' : Turn)
-    → r ≡ r'
-    → Turned f script send n budget t log words log' words' r → Turned f script send n budget t log words log' words' r'
-as_turn f script send n budget t log words log' words' r r' e h = subst (Turned f script send n budget t log words log' words') e h
+  -- a side that has ended is passed over
+  pub send_ends : (sent : ℕ) → p.send ≤ sent → Onward p (turn Tx sent) r (turn Rx sent) r
+  send_ends sent l m old olds es er h =
+      subst (λ (y : Transfer). At due_access resumed old olds m y r) (ended (ap (ltb sent) es ∙ le-ltb sent p.send l)) h
+    where
+      ended : ltb sent m.work.send ≡ false → turn_at Tx sent r.spot.received m ≡ turn_at Rx sent r.spot.received m
+      ended e = rw e
 
--- from the start to the first turn
-module _ (f : Frame) (script send words log log' : List ℕ) (q : Sequence) (command n m : ℕ) (r : Spaced)
-    (waited : Waited command script (spot 0 0 0) log r log') where
-  abbrev begins : Transfer
-  begins = at_start q command n m
+  pub receive_ends : (sent : ℕ) → p.receive ≤ r.spot.received → Onward p (turn Rx sent) r (turn Tx sent) r
+  receive_ends sent l m old olds es er h =
+      subst (λ (y : Transfer). At due_access resumed old olds m y r)
+      (ended (ap (ltb r.spot.received) er ∙ le-ltb r.spot.received p.receive l)) h
+    where
+      ended : ltb r.spot.received m.work.receive ≡ false → turn_at Rx sent r.spot.received m ≡ turn_at Tx sent r.spot.received m
+      ended e = rw e
 
-  waited_from_start : Stands f script send log words begins (cond r.commanded (turn_at Tx 0 0 begins) begins) r.spot log' words
-  waited_from_start = waited f send words q n m log words (stands_start f script send log words begins)
+pub onward_on : (p : Plan) (t u v : Turn) (r s x : Running) → Onward p t r u s → Onward p u s v x → Onward p t r v x
+onward_on p t u v r s x h k m old olds es er y = k m old olds es er (h m old olds es er y)
 
-  pub stands_commanded : r.commanded ≡ true → r.spot.received ≡ 0
-      → Stands f script send log words begins (turn_at Tx 0 r.spot.received begins) r.spot log' words
-  stands_commanded e z =
-      subst (λ (x : ℕ). Stands f script send log words begins (turn_at Tx 0 x begins) r.spot log' words) (sym z)
-      (subst (λ (b : Bool). Stands f script send log words begins (cond b (turn_at Tx 0 0 begins) begins) r.spot log' words)
-      e waited_from_start)
+-- what a poll showed, by the test of it
+pub as_unready : (d : Direction) (r s : Running) (b : Bool) → b ≡ false → Whole d r s (ready_or b) → Whole d r s Unready
+as_unready d r s b e h = subst (λ (x : Bool). Whole d r s (ready_or x)) e h
 
-  pub stands_uncommanded : r.commanded ≡ false → Stands f script send log words begins begins r.spot log' words
-  stands_uncommanded e =
-      subst (λ (b : Bool). Stands f script send log words begins (cond b (turn_at Tx 0 0 begins) begins) r.spot log' words) e
-      waited_from_start
+pub as_ready : (d : Direction) (r s : Running) (b : Bool) → b ≡ true → Whole d r s (ready_or b) → Whole d r s Ready
+as_ready d r s b e h = subst (λ (x : Bool). Whole d r s (ready_or x)) e h
+
+-- what a wait came to, by the test of it
+pub uncommanded : (x : Option (Unit {0})) (t : Transfer) (b : Bool) → is_some x ≡ not b → b ≡ true → commanded x t ≡ t
+uncommanded None t b e h = refl
+uncommanded (Some y) t true e h = cc
+uncommanded (Some y) t false e h = cc
+
+pub was_commanded : (x : Option (Unit {0})) (t : Transfer) (got : ℕ) (b : Bool) → is_some x ≡ not b → b ≡ false → got ≡ 0
+    → commanded x t ≡ turn_at Tx 0 got t
+was_commanded None t got true e h z = cc
+was_commanded None t got false e h z = cc
+was_commanded (Some y) t got b e h z = ap (λ (g : ℕ). turn_at Tx 0 g t) (sym z)

@@ -11,7 +11,8 @@ use lib.ListN.{length, get_or, drop}
 use borrow.Author.Tests.{ltb-true, ltb-false, le-leb}
 use Rattle.words.specs.declared.transaction.Direction.{Direction}
 use Rattle.words.specs.declared.transaction.LpspiError.TheVariants.{Fifo}
-use Rattle.sequences.specs.declared.access.Ending.TheVariants.{Ok, Err}
+use Rattle.std.specs.Prelude.{Ok, Err}
+use Rattle.sequences.specs.declared.access.RunError.TheVariants.{Driver}
 use Rattle.machine.specs.declared.flush.Flush.{Flush}
 use Rattle.machine.specs.declared.flush.Flush.TheVariants.{Status, Sizes, Counts, Ended as FlushEnded}
 use Rattle.machine.specs.declared.poll.Poll.TheVariants.{Status as PollStatus, Sizes as PollSizes, Counts as PollCounts}
@@ -103,7 +104,7 @@ pending_most (Ended e) place = omega arith
 turn_reads : (w : Work) (place : ℕ) → pending_in (send_turn w) place ≡ 0
 turn_reads w place = by_test (ltb w.sent w.send) (ltb w.received w.receive)
   where
-    by_test : (t u : Bool) → pending_in (cond t (Sending PollStatus) (cond u (Receiving PollStatus) (Ended Ok))) place ≡ 0
+    by_test : (t u : Bool) → pending_in (cond t (Sending PollStatus) (cond u (Receiving PollStatus) (Ended (Ok tt)))) place ≡ 0
     by_test true u = refl
     by_test false true = refl
     by_test false false = refl
@@ -114,14 +115,14 @@ recovery_write : (d : Direction) (r : Sequence) → writes (recovery_move r.plac
 recovery_write d r e = by_place (ltb r.place 27) refl
   where
     by_done : (t : Bool) → r.place < 27
-        → pending_in (cond t (Ended (Err (Fifo d))) (Recovery d)) (r.place + 1) < 1 + leading (drop r.place recovery)
+        → pending_in (cond t (Ended (Err (Driver (Fifo d)))) (Recovery d)) (r.place + 1) < 1 + leading (drop r.place recovery)
     by_done true h = omega arith
     by_done false h =
         let fact = leading_next recovery r.place h e in
         rw (add-one r.place) (omega (arith, fact))
 
     by_place : (t : Bool) → ltb r.place 27 ≡ t
-        → pending_in (cond (leb 27 (cond t (r.place + 1) r.place)) (Ended (Err (Fifo d))) (Recovery d))
+        → pending_in (cond (leb 27 (cond t (r.place + 1) r.place)) (Ended (Err (Driver (Fifo d)))) (Recovery d))
         (cond t (r.place + 1) r.place)
         < 1 + leading (drop r.place recovery)
     by_place true t = by_done (leb 27 (r.place + 1)) (ltb-true r.place 27 t)

@@ -1,7 +1,7 @@
 -- The other calls as runs: the machine of a call (sequences `Call`), driven over its table of moves.
 -- Assumes nothing.
-use Rattle.std.specs.Prelude.{ℕ, cond, List, length}
-use Rattle.sequences.specs.declared.access.Ending.TheVariants.{Limits}
+use Rattle.std.specs.Prelude.{ℕ, cond, List, length, Err}
+use Rattle.sequences.specs.declared.access.RunError.TheVariants.{Limits}
 use Rattle.sequences.specs.declared.call.Call.{Call}
 use Rattle.sequences.specs.declared.driver.Lpspi.{Lpspi}
 use Rattle.sequences.specs.declared.sequence.Sequence.{Sequence}
@@ -35,7 +35,7 @@ called_by c old s =
 -- A CALL: number 5, all as found, or the run from the call's start
 unfoldable pub call_run : Lpspi → Call → ℕ → List ℕ → List ℕ → CallLeft
 call_run d c budget script log =
-    cond (limits budget log) (call_left (record { ending = Limits; accesses = 0; answers = 0; sequence = sequence_start d }) log)
+    cond (limits budget log) (call_left (record { ending = Err Limits; accesses = 0; answers = 0; sequence = sequence_start d }) log)
     (called_by c log (call_states c d script budget))
 
 -- its result: the driver value is the sequence's

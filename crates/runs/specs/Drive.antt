@@ -1,7 +1,7 @@
 -- The run of a transfer over FIFO words, the border between this crate and those above it: what `run_words`, `word_in` and `keep`
 -- promise. No contract of a call of document 01 cites it: there the words are elements (transfers `Transfers`).
 -- Assumes nothing.
-use Rattle.std.specs.Prelude.{ℕ, ◌+◌, min, cond, ◌&&◌, List, ◌≡◌, ltb, length, get_or, set}
+use Rattle.std.specs.Prelude.{ℕ, ◌+◌, min, cond, ◌&&◌, List, ltb, length, get_or, set, Err}
 use Rattle.words.specs.Width.{width_bits}
 use Rattle.words.specs.Word.{laid}
 use Rattle.words.specs.Buffer.{cut_word}
@@ -9,11 +9,10 @@ use Rattle.sequences.specs.declared.access.Access.{Access}
 use Rattle.sequences.specs.declared.access.Access.TheVariants.{Read, Write, Send, Receive, Done}
 use Rattle.sequences.specs.declared.driver.Lpspi.{Lpspi}
 use Rattle.machine.specs.declared.transfer.Transfer.{Transfer}
-use Rattle.sequences.specs.declared.access.Ending.TheVariants.{Limits}
+use Rattle.sequences.specs.declared.access.RunError.TheVariants.{Limits}
 use Rattle.sequences.specs.Access.{number_of}
 use Rattle.machine.specs.Transfer.{due_access, resumed}
 use Rattle.runs.specs.declared.drive.Frame.{Frame}
-use Rattle.runs.specs.declared.drive.Spot.{Spot}
 use Rattle.runs.specs.declared.drive.Driven.{Driven}
 use Rattle.runs.specs.declared.result.RunResult.{RunResult}
 use Rattle.runs.specs.Run.{State, start, run, limits, ending_of, log_over}
@@ -50,16 +49,6 @@ module _ (f : Frame) (script send : List ℕ) where
   abbrev pub words_states : List ℕ → Transfer → ℕ → State Transfer
   words_states olds t n = run due_access resumed (sent_from f send olds) script n (start t)
 
-  -- (private contracts cite it) after `made` accesses of it the code holds the transfer u, the spot s, this log and these words
-  pub record Stands (old olds : List ℕ) (t u : Transfer) (s : Spot) (log words : List ℕ) : Type 0 where
-    pub machine : (words_states olds t s.made).machine ≡ u
-    pub used : (words_states olds t s.made).used ≡ s.used
-    pub pairs : length (words_states olds t s.made).log ≡ s.made
-    pub got : stored (words_states olds t s.made).received olds ≡ s.received
-    pub size : length log ≡ length old
-    pub held : log ≡ log_over old (words_states olds t s.made).log
-    pub placed : words ≡ laid (words_states olds t s.made).received olds
-
 -- what it comes to, document 01's number of it, the log and the received words
 pub record DrivenLeft : Type 0 where
   pub driven : Driven
@@ -86,5 +75,5 @@ result_of d r = record { ending = r.ending; accesses = r.spot.made; answers = r.
 -- A TRANSFER OVER FIFO WORDS: number 5, all as found, or the run of t from where it stands
 unfoldable pub words_run : Transfer → Frame → ℕ → List ℕ → List ℕ → List ℕ → List ℕ → DrivenLeft
 words_run t f budget script send log olds =
-    cond (limits budget log) (driven_left (record { ending = Limits; spot = record { made = 0; used = 0; received = 0 } }) log olds)
+    cond (limits budget log) (driven_left (record { ending = Err Limits; spot = record { made = 0; used = 0; received = 0 } }) log olds)
     (driven_by log olds (words_states f script send olds t budget))

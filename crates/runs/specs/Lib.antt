@@ -5,5 +5,6 @@ pub mod Call
 pub mod Unlimited
 pub mod Drive
 -- only private contracts cite these
-pub mod Loop
+pub mod Running
+pub mod Flushing
 pub mod Turns

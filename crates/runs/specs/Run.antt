@@ -1,14 +1,14 @@
 -- A run (document 01, Results by place of check): a machine, driven from a script under a budget, with its log. It is one definition
 -- for every call: the machine M says which access is due (`next`) and goes on by its answer (`resume`).
 -- Assumes nothing.
-use Rattle.std.specs.Prelude.{ℕ, zero, suc, ◌+◌, ◌*◌, Bool, true, false, cond, ◌||◌, leb, ltb}
+use Rattle.std.specs.Prelude.{ℕ, zero, suc, ◌+◌, ◌*◌, Bool, true, false, cond, ◌||◌, leb, ltb, Err}
 use Rattle.std.specs.Prelude.{List, [], ◌∷◌, ◌++◌, length, get_or, set, drop}
 use Rattle.manual.specs.declared.Register.TheVariants.{TDR, RDR}
 use Rattle.manual.specs.Manual.{offset_of}
 use Rattle.sequences.specs.declared.access.Access.{Access}
 use Rattle.sequences.specs.declared.access.Access.TheVariants.{Read, Write, Send, Receive, Done}
-use Rattle.sequences.specs.declared.access.Ending.{Ending}
-use Rattle.sequences.specs.declared.access.Ending.TheVariants.{Stopped, Limits}
+use Rattle.sequences.specs.Access.{Ending}
+use Rattle.sequences.specs.declared.access.RunError.TheVariants.{Stopped, Limits}
 use Rattle.sequences.specs.declared.driver.Lpspi.{Lpspi}
 use Rattle.sequences.specs.Access.{number_of}
 use Rattle.runs.specs.declared.result.RunResult.{RunResult}
@@ -126,10 +126,10 @@ no_words received i = 0
 
 -- how a run ended: what the machine answers, or Stopped where an access was due
 abbrev pub ending_of : Access → Ending
-ending_of (Read r) = Stopped
-ending_of (Write r w) = Stopped
-ending_of (Send i) = Stopped
-ending_of (Receive i) = Stopped
+ending_of (Read r) = Err Stopped
+ending_of (Write r w) = Err Stopped
+ending_of (Send i) = Err Stopped
+ending_of (Receive i) = Err Stopped
 ending_of (Done e) = e
 
 -- what a call leaves: its result, document 01's number of it, and its log
@@ -147,7 +147,7 @@ unmoved d e = record { ending = e; accesses = 0; answers = 0; driver = d }
 
 -- number 5: all as found
 abbrev pub over_limits : Lpspi → List ℕ → Left
-over_limits d log = left (unmoved d Limits) log
+over_limits d log = left (unmoved d (Err Limits)) log
 
 -- log places past the pairs keep their contents
 abbrev pub log_over : List ℕ → List Logged → List ℕ

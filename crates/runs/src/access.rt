@@ -3,7 +3,7 @@ ghost use Rattle.std.specs.Prelude.{◌≡◌};
 ghost use Rattle.runs.specs.Run.{code_of, uses_of, answer_of, halted, ending_of};
 
 use manual::Register;
-use sequences::access::{Access, Ending};
+use sequences::access::{Access, Ending, RunError};
 
 // Added to the offset of a register that is written.
 pub(crate) const WRITE: u32 = 0x1000;
@@ -26,11 +26,8 @@ pub(crate) fn uses_of(access: Access) -> usize
     ensures { result ≡ uses_of access }
 {
     match access {
-        Access::Read(_) => 1,
-        Access::Write(_, _) => 0,
-        Access::Send(_) => 0,
-        Access::Receive(_) => 1,
-        Access::Done(_) => 0,
+        Access::Read(_) | Access::Receive(_) => 1,
+        Access::Write(_, _) | Access::Send(_) | Access::Done(_) => 0,
     }
 }
 
@@ -39,11 +36,8 @@ pub(crate) fn answer_of(access: Access, value: u32) -> u32
     ensures { result ≡ answer_of access value }
 {
     match access {
-        Access::Read(_) => value,
-        Access::Write(_, _) => 0,
-        Access::Send(_) => 0,
-        Access::Receive(_) => value,
-        Access::Done(_) => 0,
+        Access::Read(_) | Access::Receive(_) => value,
+        Access::Write(_, _) | Access::Send(_) | Access::Done(_) => 0,
     }
 }
 
@@ -52,10 +46,8 @@ pub(crate) fn halted(access: Access, used: usize, answers: usize) -> bool
     ensures { result ≡ halted access used answers }
 {
     match access {
-        Access::Read(_) => answers <= used,
-        Access::Write(_, _) => false,
-        Access::Send(_) => false,
-        Access::Receive(_) => answers <= used,
+        Access::Read(_) | Access::Receive(_) => answers <= used,
+        Access::Write(_, _) | Access::Send(_) => false,
         Access::Done(_) => true,
     }
 }
@@ -65,10 +57,7 @@ pub(crate) fn ending_of(access: Access) -> Ending
     ensures { result ≡ ending_of access }
 {
     match access {
-        Access::Read(_) => Ending::Stopped,
-        Access::Write(_, _) => Ending::Stopped,
-        Access::Send(_) => Ending::Stopped,
-        Access::Receive(_) => Ending::Stopped,
         Access::Done(e) => e,
+        _ => Err(RunError::Stopped),
     }
 }

@@ -1,17 +1,17 @@
-// The run of a call over its table of moves, an access at a time.
-ghost use Rattle.std.specs.Prelude.{◌≡◌, ◌*◌, ◌≤◌, length, []};
-ghost use Rattle.runs.specs.Run.{no_words, value_of};
-ghost use Rattle.runs.specs.Call.{call_states, call_left, called_by, call_run};
+// The run of a call over its table of moves.
+ghost use Rattle.std.specs.Prelude.{◌≡◌};
+ghost use Rattle.runs.specs.Call.{call_left, call_run};
 
-use crate::access::{answer_of, code_of, ending_of, halted, uses_of};
-use crate::drive::answer;
-use crate::log::{limits, put};
-use sequences::access::{Access, Ending};
+use crate::drive::{NO_WORDS, Spot};
+use crate::log::limits;
+use crate::run::Machine;
+use crate::running::Running;
+use sequences::access::{Access, Ending, RunError};
 use sequences::call::Call;
 use sequences::driver::Lpspi;
 use sequences::sequence::Sequence;
 
-// What a call comes to; the sequence has the registers that it read and the driver value.
+// What a call comes to; the sequence has the registers that it read and the driver value, so that this is not yet a `RunResult`.
 #[derive(Clone, Copy)]
 pub struct Called {
     pub ending: Ending,
@@ -20,47 +20,29 @@ pub struct Called {
     pub sequence: Sequence,
 }
 
-// The second number of its pair in the log; a call sends no FIFO word of a transfer.
-fn value_of(access: Access, value: u32) -> u32
-    ensures { result ≡ value_of (no_words []) access value }
-{
-    match access {
-        Access::Read(_) => value,
-        Access::Write(_, w) => w,
-        Access::Send(_) => 0,
-        Access::Receive(_) => value,
-        Access::Done(_) => 0,
-    }
+// A call, where its sequence stands.
+#[derive(Clone, Copy)]
+struct Calling {
+    call: Call,
+    sequence: Sequence,
 }
 
-// A call within limits.
-fn run(call: Call, driver: Lpspi, budget: usize, script: &[u32], log: &mut [u32]) -> Called
-    requires room { 2 * budget ≤ length log.old }
-    ensures { call_left result log.new
-        ≡ called_by call log.old (call_states call driver script.now budget) }
-{
-    let mut sequence = call.start(driver);
-    let mut made: usize = 0;
-    let mut used: usize = 0;
-    let ending = loop {
-        let access = call.next(sequence);
-        if budget <= made {
-            break ending_of(access);
+impl Machine for Calling {
+    ghost use Rattle.sequences.specs.Call.{call_access, call_after};
+
+    ghost due = { λ c. call_access c.call c.sequence };
+
+    ghost after = { λ c v. record { call = c.call; sequence = call_after c.call c.sequence v } };
+
+    fn next(self) -> Access {
+        self.call.next(self.sequence)
+    }
+
+    fn answered(self, value: u32) -> Self {
+        Calling {
+            call: self.call,
+            sequence: self.call.answered(self.sequence, value),
         }
-        if halted(access, used, script.len()) {
-            break ending_of(access);
-        }
-        let value = answer(script, used);
-        put(log, made, code_of(access), value_of(access, value));
-        made += 1;
-        used += uses_of(access);
-        sequence = call.answered(sequence, answer_of(access, value));
-    };
-    Called {
-        ending,
-        accesses: made,
-        answers: used,
-        sequence,
     }
 }
 
@@ -71,11 +53,30 @@ pub fn run_call(driver: Lpspi, call: Call, budget: usize, script: &[u32], log: &
 {
     if limits(budget, log) {
         return Called {
-            ending: Ending::Limits,
+            ending: Err(RunError::Limits),
             accesses: 0,
             answers: 0,
             sequence: Sequence::start(driver),
         };
     }
-    run(call, driver, budget, script, log)
+    let mut run = Running {
+        frame: NO_WORDS,
+        budget,
+        script,
+        log,
+        sent_words: &[],
+        received_words: &mut [],
+        spot: Spot::default(),
+    };
+    let first = Calling {
+        call,
+        sequence: call.start(driver),
+    };
+    let (ending, last) = run.drive(first);
+    Called {
+        ending,
+        accesses: run.spot.made,
+        answers: run.spot.used,
+        sequence: last.sequence,
+    }
 }

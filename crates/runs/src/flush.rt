@@ -1,55 +1,34 @@
 // `flush`: wait for all ongoing transactions to be finished.
-ghost use Rattle.std.specs.Prelude.{◌≡◌, ◌+◌, ◌*◌, ◌<◌, ◌≤◌, min, false, ◌||◌, eqb, length, get_or};
+ghost use Rattle.std.specs.Prelude.{◌≡◌, List, ℕ, false, ◌||◌, eqb, min, length};
 ghost use Rattle.manual.specs.declared.Field.TheVariants.{Sr as SrField, Fsr as FsrField};
 ghost use Rattle.manual.specs.declared.Fsr.TheVariants.{TXCOUNT};
 ghost use Rattle.manual.specs.declared.Sr.TheVariants.{MBF};
 ghost use Rattle.manual.specs.Manual.{read_field};
 ghost use Rattle.sequences.specs.Sequence.{too_deep};
-ghost use Rattle.runs.specs.Run.{left, put};
 ghost use Rattle.words.specs.declared.transaction.Direction.TheVariants.{Tx, Rx};
+ghost use Rattle.machine.specs.declared.flush.Flush.TheVariants.{Status};
+ghost use Rattle.machine.specs.Flush.{flush_access, flushed};
 ghost use Rattle.machine.specs.Poll.{failed as failed_by};
-ghost use Rattle.runs.specs.Flush.{first_error, flush_states, flush_loop, flush_run, flush_left};
+ghost use Rattle.runs.specs.Run.{left};
+ghost use Rattle.runs.specs.Flush.{flush_run};
+ghost use Rattle.runs.specs.Flushing.{first_error, Looked, FlushEnded};
+ghost use Rattle.runs.specs.Running.{Kept, At};
 
-use crate::log::{limits, put};
+use crate::drive::{NO_WORDS, Spot};
+use crate::log::limits;
 use crate::result::RunResult;
+use crate::running::Running;
 use machine::poll::failed;
 use manual::{Field, Fsr, Register, Sr};
-use sequences::access::Ending;
+use sequences::access::{Access, Ending, RunError};
 use sequences::driver::Lpspi;
 use sequences::sequence::too_deep;
 use words::transaction::{Direction, LpspiError};
 
-// What the loop comes to.
-#[derive(Clone, Copy)]
-pub(crate) struct Flushed {
-    pub ending: Ending,
-    pub accesses: usize,
-}
-
-fn least(a: usize, b: usize) -> usize
-    ensures { result ≡ min a b }
-{
-    if a < b { a } else { b }
-}
-
-// The next answer, which the log has: every access of a flush is a read, so that as many were used as made.
-fn read(script: &[u32], log: &mut [u32], made: usize, at: u32) -> u32
-    requires { (2 * made + 1 < length log.old) × (made < length script.now) }
-    ensures { (result ≡ get_or script.now made 0)
-        × (log.new ≡ put log.old made at (get_or script.now made 0)) }
-{
-    let value = script[made];
-    put(log, made, at, value);
-    value
-}
-
 fn has_error(status: u32) -> bool
     ensures { result ≡ (failed_by Rx status || failed_by Tx status) }
 {
-    if failed(Direction::Rx, status) {
-        return true;
-    }
-    failed(Direction::Tx, status)
+    failed(Direction::Rx, status) || failed(Direction::Tx, status)
 }
 
 // Receive error, then transmit error. The loop asks for either at once, and which it was when it has ended.
@@ -57,9 +36,9 @@ fn error_of(status: u32) -> Ending
     ensures { result ≡ first_error status }
 {
     if failed(Direction::Rx, status) {
-        return Ending::Err(LpspiError::Fifo(Direction::Rx));
+        return Err(RunError::Driver(LpspiError::Fifo(Direction::Rx)));
     }
-    Ending::Err(LpspiError::Fifo(Direction::Tx))
+    Err(RunError::Driver(LpspiError::Fifo(Direction::Tx)))
 }
 
 fn is_busy(status: u32) -> bool
@@ -85,48 +64,58 @@ fn is_deep(param: u32, fit: u32) -> bool
     too_deep(param)
 }
 
-// One polling loop: it yields either error, 7, Ok, or Stopped where budget or script is used up before a read.
-fn poll(budget: usize, script: &[u32], log: &mut [u32]) -> Flushed
-    requires { 2 * budget ≤ length log.old }
-    ensures { (flush_left result log.new ≡ flush_loop script.now budget log.old)
-        × ((flush_states script.now budget).used ≡ result.accesses) }
-{
-    let end = least(budget, script.len());
-    let mut made: usize = 0;
-    let mut fit: u32 = 0;
-    let ending = loop {
-        if end <= made {
-            break Ending::Stopped;
+impl Running<'_> {
+    // What a register reads. None at the end of budget or script: every access of a flush is a read, so that as many answers were used as
+    // accesses made.
+    #[inline(always)]
+    fn read(&mut self, end: usize, register: Register) -> Option<u32>
+        requires reads { self.old.spot.used ≡ self.old.spot.made }
+        requires end { end ≡ min self.old.budget (length self.old.script.now) }
+        ensures kept { Kept self.old self.new }
+        ensures looked { Looked register self.old self.new result }
+    {
+        if end <= self.spot.made {
+            return None;
         }
-        let status = read(script, log, made, Register::SR.offset());
-        made += 1;
-        if has_error(status) {
-            break error_of(status);
+        let value = self.script[self.spot.made];
+        Some(self.make(Access::Read(register), value))
+    }
+
+    // One polling loop: it yields either error, 7, Ok, or Stopped where budget or script is used up before a read.
+    #[inline(always)]
+    fn flush(&mut self) -> Ending
+        requires reads { self.old.spot.used ≡ self.old.spot.made }
+        ensures kept { Kept self.old self.new }
+        ensures reads { self.new.spot.used ≡ self.new.spot.made }
+        ensures ended { (old olds : List ℕ) → At flush_access flushed old olds Status Status self.old
+            → FlushEnded old olds result self.new }
+    {
+        let end = self.budget.min(self.script.len());
+        let mut fit: u32 = 0;
+        loop {
+            let Some(status) = self.read(end, Register::SR) else {
+                break Err(RunError::Stopped);
+            };
+            if has_error(status) {
+                break error_of(status);
+            }
+            if is_busy(status) {
+                continue;
+            }
+            let Some(param) = self.read(end, Register::PARAM) else {
+                break Err(RunError::Stopped);
+            };
+            if is_deep(param, fit) {
+                break Err(RunError::FifoExponent);
+            }
+            fit = param;
+            let Some(counts) = self.read(end, Register::FSR) else {
+                break Err(RunError::Stopped);
+            };
+            if is_empty(counts) {
+                break Ok(());
+            }
         }
-        if is_busy(status) {
-            continue;
-        }
-        if end <= made {
-            break Ending::Stopped;
-        }
-        let param = read(script, log, made, Register::PARAM.offset());
-        made += 1;
-        if is_deep(param, fit) {
-            break Ending::FifoExponent;
-        }
-        fit = param;
-        if end <= made {
-            break Ending::Stopped;
-        }
-        let counts = read(script, log, made, Register::FSR.offset());
-        made += 1;
-        if is_empty(counts) {
-            break Ending::Ok;
-        }
-    };
-    Flushed {
-        ending,
-        accesses: made,
     }
 }
 
@@ -134,19 +123,22 @@ pub fn flush(driver: Lpspi, budget: usize, script: &[u32], log: &mut [u32]) -> R
     ensures { left result log.new ≡ flush_run driver budget script.now log.old }
 {
     if limits(budget, log) {
-        return RunResult {
-            ending: Ending::Limits,
-            accesses: 0,
-            answers: 0,
-            driver,
-        };
+        return RunResult::unmoved(driver, Err(RunError::Limits));
     }
-    let flushed = poll(budget, script, log);
-    let ending = flushed.ending;
+    let mut run = Running {
+        frame: NO_WORDS,
+        budget,
+        script,
+        log,
+        sent_words: &[],
+        received_words: &mut [],
+        spot: Spot::default(),
+    };
+    let ending = run.flush();
     RunResult {
         ending,
-        accesses: flushed.accesses,
-        answers: flushed.accesses,
+        accesses: run.spot.made,
+        answers: run.spot.made,
         driver,
     }
 }

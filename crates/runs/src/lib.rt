@@ -1,4 +1,5 @@
-// Runs over a script: a machine, driven with a budget of accesses from the answers to its reads, with a log.
+// Runs over a script: a machine, driven with a budget of accesses from the answers to its reads, with a log. (Why these are parameters of
+// their own in the public functions: `calls`.)
 #![tactic(auto)]
 
 mod access;
@@ -8,4 +9,6 @@ mod fast;
 pub mod flush;
 pub mod log;
 pub mod result;
+mod run;
+mod running;
 pub mod transfer;

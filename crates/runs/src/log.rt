@@ -9,10 +9,7 @@ pub(crate) const MAX_BUDGET: usize = 8_000;
 pub fn limits(budget: usize, log: &[u32]) -> bool
     ensures { result ≡ limits budget log.now }
 {
-    if MAX_BUDGET < budget {
-        return true;
-    }
-    log.len() < 2 * budget
+    MAX_BUDGET < budget || log.len() < 2 * budget
 }
 
 // The pair of an access.

@@ -1,7 +1,9 @@
 // What a run answers beside its log and buffers.
 ghost use Rattle.std.specs.Prelude.{◌≡◌};
 ghost use Rattle.runs.specs.Run.{unmoved};
+ghost use Rattle.runs.specs.Call.{called_result};
 
+use crate::call::Called;
 use sequences::access::Ending;
 use sequences::driver::Lpspi;
 
@@ -25,6 +27,20 @@ impl RunResult {
             accesses: 0,
             answers: 0,
             driver,
+        }
+    }
+}
+
+// Of a call, with the driver value that its sequence holds.
+impl From<Called> for RunResult {
+    ghost from_gives = { λ called r. r ≡ called_result called };
+
+    fn from(called: Called) -> Self {
+        RunResult {
+            ending: called.ending,
+            accesses: called.accesses,
+            answers: called.answers,
+            driver: called.sequence.driver(),
         }
     }
 }

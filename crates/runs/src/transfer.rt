@@ -2,11 +2,11 @@
 ghost use Rattle.std.specs.Prelude.{◌≡◌};
 ghost use Rattle.runs.specs.Drive.{driven_left, words_run};
 
-use crate::drive::{Driven, Frame, Spot, drive};
-use crate::fast::ahead::ahead;
+use crate::drive::{Driven, Frame, Spot};
 use crate::log::limits;
+use crate::running::Running;
 use machine::transfer::Transfer;
-use sequences::access::Ending;
+use sequences::access::RunError;
 
 // Number 5, or the run of a transfer from where it stands. `received_words` are the places for the words received.
 pub fn run_words(
@@ -24,51 +24,24 @@ pub fn run_words(
 {
     if limits(budget, log) {
         return Driven {
-            ending: Ending::Limits,
-            spot: Spot {
-                made: 0,
-                used: 0,
-                received: 0,
-            },
+            ending: Err(RunError::Limits),
+            spot: Spot::default(),
         };
     }
-    if transfer.is_at_start() {
-        // Only for speed: see `fast`.
-        let reached = ahead(
-            transfer,
-            frame,
-            budget,
-            script,
-            log,
-            sent_words,
-            received_words,
-        );
-        let rest = reached.transfer;
-        let spot = reached.spot;
-        return drive(
-            rest,
-            spot,
-            frame,
-            budget,
-            script,
-            log,
-            sent_words,
-            received_words,
-        );
-    }
-    let nothing = Spot {
-        made: 0,
-        used: 0,
-        received: 0,
-    };
-    drive(
-        transfer,
-        nothing,
+    let mut run = Running {
         frame,
         budget,
         script,
         log,
         sent_words,
         received_words,
-    )
+        spot: Spot::default(),
+    };
+    // Only for speed: see `fast`.
+    let rest = run.ahead(transfer);
+    let (ending, _) = run.drive(rest);
+    Driven {
+        ending,
+        spot: run.spot,
+    }
 }

@@ -19,7 +19,8 @@ use Rattle.manual.specs.Manual.{read_field}
 use Rattle.words.specs.declared.transaction.Direction.{Direction}
 use Rattle.words.specs.declared.transaction.Direction.TheVariants.{Tx, Rx}
 use Rattle.sequences.specs.declared.access.Access.TheVariants.{Read, Done}
-use Rattle.sequences.specs.declared.access.Ending.TheVariants.{FifoExponent}
+use Rattle.std.specs.Prelude.{Err}
+use Rattle.sequences.specs.declared.access.RunError.TheVariants.{FifoExponent}
 use Rattle.sequences.specs.declared.call.Call.{Call}
 use Rattle.sequences.specs.declared.call.Call.TheVariants.{Init, SetWatermark, GetFifoStatus}
 use Rattle.sequences.specs.declared.driver.Lpspi.{Lpspi}
@@ -49,8 +50,8 @@ fits d param = by_tests d (ltb 4 (exponent_of Tx param)) (ltb 4 (exponent_of Rx 
   where
     by_tests : (d : Direction) (a b : Bool) → ltb 4 (exponent_of Tx param) ≡ a → ltb 4 (exponent_of Rx param) ≡ b → (a || b) ≡ false
         → exponent_of d param ≤ 4
-    by_tests d true b e f h = let z : ◌≡◌ {A = ℕ} 0 1 = cc in absurd (omega arith)
-    by_tests d false true e f h = let z : ◌≡◌ {A = ℕ} 0 1 = cc in absurd (omega arith)
+    by_tests d true b e f h = cc
+    by_tests d false true e f h = cc
     by_tests Tx false false e f h = ltb-false 4 (exponent_of Tx param) e
     by_tests Rx false false e f h = ltb-false 4 (exponent_of Rx param) f
 
@@ -163,7 +164,7 @@ status_depth Rx = reached_depth Rx GetFifoStatus tt
 
 -- "AN EXPONENT OVER 4 IN EITHER FIELD IS ANSWERED 7 RIGHT AFTER THE PARAM READ .. in `fifo_status`"; else FSR is read
 pub status_seven : (driver : Lpspi) (param : ℕ) → too_deep param ≡ true
-    → call_access GetFifoStatus (call_after GetFifoStatus (call_start GetFifoStatus driver) param) ≡ Done FifoExponent
+    → call_access GetFifoStatus (call_after GetFifoStatus (call_start GetFifoStatus driver) param) ≡ Done (Err FifoExponent)
 unfolding call_access call_after
 status_seven driver param e = rw e refl
 

@@ -1,4 +1,3 @@
-mod Lists
 pub mod ChangeLaws
 pub mod CallLaws
 pub mod ResetLaws

@@ -17,7 +17,7 @@ use Rattle.manual.specs.declared.Register.TheVariants.{DMR1, CCR, FCR, FSR, TCR,
 use Rattle.manual.specs.Manual.{read_field, set_field}
 use Rattle.sequences.specs.declared.access.Access.{Access}
 use Rattle.sequences.specs.declared.access.Access.TheVariants.{Read, Write, Done}
-use Rattle.sequences.specs.declared.access.Ending.TheVariants.{Ok}
+use Rattle.std.specs.Prelude.{Ok}
 use Rattle.sequences.specs.declared.call.Call.TheVariants.{SoftReset, RecoverFromError}
 use Rattle.sequences.specs.declared.driver.Lpspi.{Lpspi}
 use Rattle.sequences.specs.declared.sequence.Move.{Move}
@@ -224,9 +224,9 @@ module _ (tail : List Move) (last : Move) where
 -- WHAT IS WRITTEN BACK IS WHAT WAS READ: by `soft_reset`, by `recover_from_error`, and by a transfer's recovery, whatever the registers
 -- answer
 module _ (d : Lpspi) (a : Answers) (still : T (still_enabled a.enabled)) (off : eqb (read_field (Cr MEN) a.disabled) 1 ≡ false) where
-  pub soft_reset_restores : Resets (call_access SoftReset) (call_after SoftReset) d a (Done Ok)
+  pub soft_reset_restores : Resets (call_access SoftReset) (call_after SoftReset) d a (Done (Ok tt))
   unfolding call_access call_after
-  soft_reset_restores = resets [] End (call_access SoftReset) (λ s e. rw e refl) d a still off (Done Ok) refl
+  soft_reset_restores = resets [] End (call_access SoftReset) (λ s e. rw e refl) d a still off (Done (Ok tt)) refl
 
   pub recover_restores : Resets (call_access RecoverFromError) (call_after RecoverFromError) d a (Write SR (cleared errors))
   unfolding call_access call_after

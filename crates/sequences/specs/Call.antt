@@ -1,12 +1,12 @@
 -- The other calls of the module, each the table of its moves, in the Rust's order.
 -- Assumes nothing.
-use Rattle.std.specs.Prelude.{ℕ, true, false, cond, List, [], ◌∷◌, ◌++◌}
+use Rattle.std.specs.Prelude.{ℕ, true, false, cond, List, [], ◌∷◌, ◌++◌, Err}
 use Rattle.manual.specs.declared.Register.TheVariants.{CR, SR, CFGR1, CCR, FCR, FSR, TCR, TDR, RDR}
 use Rattle.words.specs.declared.transaction.Direction.TheVariants.{Tx}
 use Rattle.words.specs.Clock.{clock_word}
 use Rattle.sequences.specs.declared.access.Access.{Access}
 use Rattle.sequences.specs.declared.access.Access.TheVariants.{Done}
-use Rattle.sequences.specs.declared.access.Ending.TheVariants.{FifoExponent}
+use Rattle.sequences.specs.declared.access.RunError.TheVariants.{FifoExponent}
 use Rattle.sequences.specs.declared.driver.Lpspi.{Lpspi}
 use Rattle.sequences.specs.declared.call.Call.{Call}
 use Rattle.sequences.specs.declared.call.Call.TheVariants.{SoftReset, RecoverFromError, Init, GetStatus, ClearStatus}
@@ -59,31 +59,15 @@ moves_of (SetChipSelectPolarity pcs p) = disabled Wait (Keep CFGR1 ∷ modify (P
 
 -- `init`, once past number 5, always returns the starting driver value
 abbrev pub call_driver : Call → Lpspi → Lpspi
-call_driver SoftReset d = d
-call_driver RecoverFromError d = d
 call_driver Init d = start_driver
-call_driver GetWatermark d = d
-call_driver (SetWatermark dir watermark) d = d
-call_driver GetStatus d = d
-call_driver (ClearStatus flags) d = d
-call_driver IsEnabled d = d
-call_driver (SetEnable on) d = d
-call_driver (ClearFifo dir) d = d
-call_driver GetFifoStatus d = d
-call_driver ReadData d = d
-call_driver (EnqueueData word) d = d
-call_driver (EnqueueTransaction t) d = d
-call_driver (SetClockConfigs c) d = d
-call_driver (SetSamplePoint p) d = d
-call_driver (SetPeripheralEnable on) d = d
-call_driver (SetChipSelectPolarity pcs p) d = d
+call_driver c d = d
 
 abbrev pub call_start : Call → Lpspi → Sequence
 call_start c d = sequence_start (call_driver c d)
 
 -- 7 right after PARAM was read; else the move that is due
 unfoldable pub call_access : Call → Sequence → Access
-call_access c s = cond s.oversize (Done FifoExponent) (move_access (move_at (moves_of c) s.place) s)
+call_access c s = cond s.oversize (Done (Err FifoExponent)) (move_access (move_at (moves_of c) s.place) s)
 
 unfoldable pub call_after : Call → Sequence → ℕ → Sequence
 call_after c s v = moved (move_at (moves_of c) s.place) s v

@@ -22,17 +22,17 @@ start_driver = record {
 }
 
 abbrev pub with_order : BitOrder → Lpspi → Lpspi
-with_order o d = record { order = o; mode = d.mode; pcs = d.pcs; cache = d.cache }
+with_order o d = record d { order = o }
 
 abbrev pub with_mode : Mode → Lpspi → Lpspi
-with_mode m d = record { order = d.order; mode = m; pcs = d.pcs; cache = d.cache }
+with_mode m d = record d { mode = m }
 
 abbrev pub with_pcs : Pcs → Lpspi → Lpspi
-with_pcs p d = record { order = d.order; mode = d.mode; pcs = p; cache = d.cache }
+with_pcs p d = record d { pcs = p }
 
 -- the cache takes DBT and SCKDIV
 abbrev pub with_clock : ClockConfigs → Lpspi → Lpspi
-with_clock c d = record { order = d.order; mode = d.mode; pcs = d.pcs; cache = record { dbt = c.dbt; sckdiv = c.sckdiv } }
+with_clock c d = record d { cache = record { dbt = c.dbt; sckdiv = c.sckdiv } }
 
 -- a command's word with the driver's order, mode and chip select
 abbrev pub driver_command : Lpspi → ℕ → ℕ

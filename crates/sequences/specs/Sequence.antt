@@ -1,7 +1,7 @@
 -- A call as a sequence of moves, each one register access, and what a move does. `modify_reg!` is `modify`: a read (Look), then a write
 -- with only the named fields changed (Modify). `write_reg!` of fields is Set, of a word Write.
 -- Assumes nothing.
-use Rattle.std.specs.Prelude.{ℕ, ◌+◌, ◌-◌, ◌/◌, ◌^◌, min, Bool, true, false, cond, not, ◌||◌, ltb, eqb}
+use Rattle.std.specs.Prelude.{ℕ, ◌+◌, ◌-◌, ◌/◌, ◌^◌, min, Bool, true, false, cond, not, ◌||◌, ltb, eqb, Ok}
 use Rattle.std.specs.Prelude.{List, [], ◌∷◌, get_or, set, replicate}
 use Rattle.manual.specs.declared.Ccr.TheVariants.{DBT, SCKDIV}
 use Rattle.manual.specs.declared.Cfgr1.TheVariants.{MASTER, SAMPLE, PCSPOL}
@@ -22,7 +22,6 @@ use Rattle.words.specs.declared.transaction.Direction.TheVariants.{Tx, Rx}
 use Rattle.words.specs.Command.{flag_of, pcs_of}
 use Rattle.sequences.specs.declared.access.Access.{Access}
 use Rattle.sequences.specs.declared.access.Access.TheVariants.{Read, Write as WriteWord, Done}
-use Rattle.sequences.specs.declared.access.Ending.TheVariants.{Ok}
 use Rattle.sequences.specs.declared.driver.CcrCache.{CcrCache}
 use Rattle.sequences.specs.declared.driver.Lpspi.{Lpspi}
 use Rattle.sequences.specs.declared.settings.PcsPolarity.{PcsPolarity}
@@ -69,19 +68,19 @@ abbrev pub further : ℕ → ℕ
 further place = cond (ltb place 27) (place + 1) place
 
 abbrev pub onward : Sequence → Sequence
-onward s = record { place = further s.place; held = s.held; kept = s.kept; oversize = s.oversize; driver = s.driver }
+onward s = record s { place = further s.place }
 
 abbrev pub holding : ℕ → Sequence → Sequence
-holding v s = record { place = s.place; held = v; kept = s.kept; oversize = s.oversize; driver = s.driver }
+holding v s = record s { held = v }
 
 abbrev pub keeping : Register → ℕ → Sequence → Sequence
-keeping r v s = record { place = s.place; held = s.held; kept = set s.kept (slot_of r) v; oversize = s.oversize; driver = s.driver }
+keeping r v s = record s { kept = set s.kept (slot_of r) v }
 
 abbrev pub oversized : Sequence → Sequence
-oversized s = record { place = s.place; held = s.held; kept = s.kept; oversize = true; driver = s.driver }
+oversized s = record s { oversize = true }
 
 abbrev pub driving : Lpspi → Sequence → Sequence
-driving d s = record { place = s.place; held = s.held; kept = s.kept; oversize = s.oversize; driver = d }
+driving d s = record s { driver = d }
 
 -- FIELDS
 
@@ -173,7 +172,7 @@ move_access (Modify c) s = WriteWord (change_register c) (changed c s.kept s.hel
 move_access (Set c) s = WriteWord (change_register c) (changed c s.kept 0)
 move_access (Write r w) s = WriteWord r w
 move_access (Put r) s = WriteWord r (kept_of r s.kept)
-move_access End s = Done Ok
+move_access End s = Done (Ok tt)
 
 -- The sequence after a move that was answered v.
 -- KeepClock: `soft_reset` writes DBT and SCKDIV from the driver's cache.

@@ -1,16 +1,15 @@
 // A register access that is due, and how a run ends.
 ghost use Rattle.std.specs.Prelude.{◌≡◌};
-ghost use Rattle.sequences.specs.Access.{number_of};
-ghost use Rattle.words.specs.Command.{error_number};
+ghost use Rattle.sequences.specs.declared.access.RunError.TheVariants.{Driver};
+ghost use Rattle.sequences.specs.Access.{run_error_number, number_of};
 
 use manual::Register;
 use words::transaction::{Direction, LpspiError};
 
-// How a run ends. One enum for every kind of run.
+// Why a run did not end well.
 #[derive(Clone, Copy)]
-pub enum Ending {
-    Ok,
-    Err(LpspiError),
+pub enum RunError {
+    Driver(LpspiError),
     // The budget or the script is used up.
     Stopped,
     // The budget is over 8,000, or the log is shorter than twice the budget.
@@ -20,31 +19,41 @@ pub enum Ending {
     FifoExponent,
 }
 
-impl Ending {
+// How a run ends, for every kind of run.
+pub type Ending = Result<(), RunError>;
+
+impl RunError {
     // Document 01's number.
     pub fn number(self) -> u32
-        ensures { result ≡ number_of self }
+        ensures { result ≡ run_error_number self }
     {
         match self {
-            Ending::Ok => 0,
-            Ending::Err(e) => error_number(e),
-            Ending::Stopped => 4,
-            Ending::Limits => 5,
-            Ending::ZeroClock => 6,
-            Ending::FifoExponent => 7,
+            RunError::Driver(LpspiError::FrameSize) => 1,
+            RunError::Driver(LpspiError::Fifo(Direction::Rx)) => 2,
+            RunError::Driver(LpspiError::Fifo(Direction::Tx)) => 3,
+            RunError::Stopped => 4,
+            RunError::Limits => 5,
+            RunError::ZeroClock => 6,
+            RunError::FifoExponent => 7,
         }
     }
 }
 
-fn error_number(e: LpspiError) -> u32
-    ensures { result ≡ error_number e }
+impl From<LpspiError> for RunError {
+    ghost from_gives = { λ e r. r ≡ Driver e };
+
+    fn from(e: LpspiError) -> Self {
+        RunError::Driver(e)
+    }
+}
+
+// Document 01's number of an ending.
+pub fn ending_number(ending: Ending) -> u32
+    ensures { result ≡ number_of ending }
 {
-    match e {
-        LpspiError::FrameSize => 1,
-        LpspiError::Fifo(d) => match d {
-            Direction::Rx => 2,
-            Direction::Tx => 3,
-        },
+    match ending {
+        Ok(()) => 0,
+        Err(e) => e.number(),
     }
 }
 

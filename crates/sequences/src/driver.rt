@@ -59,76 +59,42 @@ impl Lpspi {
         self.cache
     }
 
-    pub fn with_bit_order(self, bit_order: BitOrder) -> Self
-        ensures { result ≡ with_order bit_order self }
+    pub fn with_bit_order(self, order: BitOrder) -> Self
+        ensures { result ≡ with_order order self }
     {
-        let mode = self.mode;
-        let pcs = self.pcs;
-        let cache = self.cache;
-        Lpspi {
-            order: bit_order,
-            mode,
-            pcs,
-            cache,
-        }
+        Lpspi { order, ..self }
     }
 
     pub fn with_mode(self, mode: Mode) -> Self
         ensures { result ≡ with_mode mode self }
     {
-        let order = self.order;
-        let pcs = self.pcs;
-        let cache = self.cache;
-        Lpspi {
-            order,
-            mode,
-            pcs,
-            cache,
-        }
+        Lpspi { mode, ..self }
     }
 
     pub fn with_pcs(self, pcs: Pcs) -> Self
         ensures { result ≡ with_pcs pcs self }
     {
-        let order = self.order;
-        let mode = self.mode;
-        let cache = self.cache;
-        Lpspi {
-            order,
-            mode,
-            pcs,
-            cache,
-        }
+        Lpspi { pcs, ..self }
     }
 
     // The driver once its cache has this clock.
     pub fn with_clock(self, clock: ClockConfigs) -> Self
         ensures { result ≡ with_clock clock self }
     {
-        let order = self.order;
-        let mode = self.mode;
-        let pcs = self.pcs;
-        Lpspi {
-            order,
-            mode,
-            pcs,
-            cache: CcrCache {
-                dbt: clock.dbt,
-                sckdiv: clock.sckdiv,
-            },
-        }
+        let cache = CcrCache {
+            dbt: clock.dbt,
+            sckdiv: clock.sckdiv,
+        };
+        Lpspi { cache, ..self }
     }
 
     // A command with the driver's order, mode and chip select.
     pub fn bus_transaction(self, transaction: Transaction) -> Transaction
         ensures { result.0 ≡ driver_command self transaction.0 }
     {
-        let order = self.order;
-        let mode = self.mode;
-        let pcs = self.pcs;
         transaction
-            .with_bit_order(order)
-            .with_mode(mode)
-            .with_pcs(pcs)
+            .with_bit_order(self.order)
+            .with_mode(self.mode)
+            .with_pcs(self.pcs)
     }
 }

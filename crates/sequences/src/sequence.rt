@@ -1,20 +1,20 @@
 // A call as a sequence of moves, each one register access, and what a move does.
-ghost use Rattle.std.specs.Prelude.{◌≡◌, ◌<◌, min, eqb};
+ghost use Rattle.std.specs.Prelude.{◌≡◌, ◌<◌, eqb};
 ghost use Rattle.manual.specs.declared.Cr.TheVariants.{MEN};
 ghost use Rattle.manual.specs.declared.Field.TheVariants.{Cr as CrField};
 ghost use Rattle.manual.specs.Manual.{read_field};
 ghost use Rattle.manual.specs.Bits.{set_bits};
 ghost use Rattle.sequences.specs.Sequence.{slot_of, kept_of, sequence_start, onward, holding, keeping, oversized, driving};
 ghost use Rattle.sequences.specs.Sequence.{exponent_of, too_deep, depth_of, level_of, water_of, fifo_reset, polarized, cached_in};
-ghost use Rattle.sequences.specs.Sequence.{change_register, changed, move_access, moved};
+ghost use Rattle.sequences.specs.Sequence.{change_register, changed, move_access, moved, move_at};
 
-use crate::access::{Access, Ending};
+use crate::access::Access;
 use crate::driver::{CcrCache, Lpspi};
 use crate::settings::{PcsPolarity, SamplePoint};
 use manual::{Ccr, Cfgr1, Cr, Fcr, Field, Param, Register, Rsr};
 use words::clock::ClockConfigs;
 use words::mode::Pcs;
-use words::transaction::{Direction, flag};
+use words::transaction::Direction;
 
 // Named fields of a register, with their new values.
 #[derive(Clone, Copy)]
@@ -45,6 +45,8 @@ pub enum Change {
     Polarity(Pcs, PcsPolarity),
 }
 
+// Moves are data and not closures: `DepthLaws.init_depth` and `ResetLaws.recover_restores` go over a call's moves. `End` is one of them and
+// not a None, since it has an access too, the call's Ok, and past it the sequence stays (`moved`).
 #[derive(Clone, Copy)]
 pub enum Move {
     // Read a register and keep it.
@@ -76,21 +78,23 @@ pub enum Move {
 // Where a sequence stands, and what it holds.
 #[derive(Clone, Copy)]
 pub struct Sequence {
-    place: usize,
+    pub(crate) place: usize,
     // The register as last looked at.
     held: u32,
-    // The registers that were kept.
+    // The registers that were kept, each at its `slot`: a map would need a heap.
     kept: [u32; 16],
-    // PARAM had an exponent over 4.
-    oversize: bool,
+    // PARAM had an exponent over 4. (A flag: the place stays beside it, and `call_access` asks both.)
+    pub(crate) oversize: bool,
     driver: Lpspi,
 }
 
 // The moves of the longest table.
 const LONGEST: usize = 27;
 
+// The place of a register among the kept ones. Its discriminant is its offset.
 fn slot(register: Register) -> usize
-    ensures { (result ≡ slot_of register) × (result < 16) }
+    ensures place { result ≡ slot_of register }
+    ensures within { result < 16 }
 {
     match register {
         Register::PARAM => 0,
@@ -122,34 +126,25 @@ fn exponent(direction: Direction, param: u32) -> u32
     }
 }
 
-fn least(a: u32, b: u32) -> u32
-    ensures { result ≡ min a b }
-{
-    if a < b { a } else { b }
-}
-
 // An exponent over 4, in either direction.
 pub fn too_deep(param: u32) -> bool
     ensures { result ≡ too_deep param }
 {
-    if 4 < exponent(Direction::Tx, param) {
-        return true;
-    }
-    4 < exponent(Direction::Rx, param)
+    4 < exponent(Direction::Tx, param) || 4 < exponent(Direction::Rx, param)
 }
 
 // The words of a direction's FIFO.
 pub fn depth(direction: Direction, param: u32) -> u32
     ensures { result ≡ depth_of direction param }
 {
-    1 << least(exponent(direction, param), 4)
+    1 << exponent(direction, param).min(4)
 }
 
 // The watermark that is set: at most the FIFO's depth less one.
 pub fn level(direction: Direction, watermark: u8, param: u32) -> u32
     ensures { result ≡ level_of direction watermark param }
 {
-    least(watermark as u32, depth(direction, param) - 1)
+    (watermark as u32).min(depth(direction, param) - 1)
 }
 
 // The direction's watermark in FCR.
@@ -171,7 +166,7 @@ fn fifo_reset(direction: Direction) -> Field
     }
 }
 
-// One bit of a word.
+// One bit of a word. `set_bits` of manual, which does the same, is not public: it has a `requires`, and no public function has one.
 fn set_bit(position: u32, bit: u32, word: u32) -> u32
     requires { position < 4 }
     ensures { result ≡ set_bits position 1 bit word }
@@ -208,18 +203,17 @@ impl Change {
         ensures { result ≡ change_register self }
     {
         match self {
-            Change::Reset => Register::CR,
-            Change::Release => Register::CR,
-            Change::ClearFifos => Register::CR,
-            Change::ClearFifo(_) => Register::CR,
-            Change::Enable(_) => Register::CR,
-            Change::Restore => Register::CR,
-            Change::Controller => Register::CFGR1,
-            Change::HalfFull => Register::FCR,
-            Change::Watermark(_, _) => Register::FCR,
-            Change::Sample(_) => Register::CFGR1,
-            Change::Peripheral(_) => Register::CFGR1,
-            Change::Polarity(_, _) => Register::CFGR1,
+            Change::Reset
+            | Change::Release
+            | Change::ClearFifos
+            | Change::ClearFifo(_)
+            | Change::Enable(_)
+            | Change::Restore => Register::CR,
+            Change::Controller
+            | Change::Sample(_)
+            | Change::Peripheral(_)
+            | Change::Polarity(_, _) => Register::CFGR1,
+            Change::HalfFull | Change::Watermark(_, _) => Register::FCR,
         }
     }
 }
@@ -235,18 +229,6 @@ impl Sequence {
             oversize: false,
             driver,
         }
-    }
-
-    pub(crate) fn place(self) -> usize
-        ensures { result ≡ self.place }
-    {
-        self.place
-    }
-
-    pub(crate) fn oversize(self) -> bool
-        ensures { result ≡ self.oversize }
-    {
-        self.oversize
     }
 
     // The register as last looked at.
@@ -266,51 +248,47 @@ impl Sequence {
     pub fn kept(self, register: Register) -> u32
         ensures { result ≡ kept_of register self.kept }
     {
-        let i = slot(register);
-        self.kept[i]
+        self.kept[slot(register)]
     }
 
     fn advance(self) -> Self
         ensures { result ≡ onward self }
     {
-        let mut s = self;
-        if self.place < LONGEST {
-            s.place = self.place + 1;
-        }
-        s
+        let place = if self.place < LONGEST {
+            self.place + 1
+        } else {
+            self.place
+        };
+        Sequence { place, ..self }
     }
 
-    fn hold(self, value: u32) -> Self
-        ensures { result ≡ holding value self }
+    fn hold(self, held: u32) -> Self
+        ensures { result ≡ holding held self }
     {
-        let mut s = self;
-        s.held = value;
-        s
+        Sequence { held, ..self }
     }
 
     fn keep(self, register: Register, value: u32) -> Self
         ensures { result ≡ keeping register value self }
     {
-        let mut s = self;
-        let i = slot(register);
-        s.kept[i] = value;
-        s
+        let mut kept = self.kept;
+        kept[slot(register)] = value;
+        Sequence { kept, ..self }
     }
 
     fn refuse(self) -> Self
         ensures { result ≡ oversized self }
     {
-        let mut s = self;
-        s.oversize = true;
-        s
+        Sequence {
+            oversize: true,
+            ..self
+        }
     }
 
     fn take(self, driver: Lpspi) -> Self
         ensures { result ≡ driving driver self }
     {
-        let mut s = self;
-        s.driver = driver;
-        s
+        Sequence { driver, ..self }
     }
 
     // A register's word, changed.
@@ -322,7 +300,7 @@ impl Sequence {
             Change::Release => Field::Cr(Cr::RST).set(0, word),
             Change::ClearFifos => Field::Cr(Cr::RRF).set(1, Field::Cr(Cr::RTF).set(1, word)),
             Change::ClearFifo(d) => fifo_reset(d).set(1, word),
-            Change::Enable(on) => Field::Cr(Cr::MEN).set(flag(on), word),
+            Change::Enable(on) => Field::Cr(Cr::MEN).set(u32::from(on), word),
             Change::Restore => {
                 Field::Cr(Cr::MEN).set(Field::Cr(Cr::MEN).read(self.kept(Register::CR)), word)
             }
@@ -335,7 +313,7 @@ impl Sequence {
             ),
             Change::Watermark(d, w) => water(d).set(level(d, w, self.kept(Register::PARAM)), word),
             Change::Sample(p) => Field::Cfgr1(Cfgr1::SAMPLE).set(p.sample(), word),
-            Change::Peripheral(on) => Field::Cfgr1(Cfgr1::MASTER).set(flag(!on), word),
+            Change::Peripheral(on) => Field::Cfgr1(Cfgr1::MASTER).set(u32::from(!on), word),
             Change::Polarity(pcs, p) => Field::Cfgr1(Cfgr1::PCSPOL).set(
                 with_polarity(
                     pcs,
@@ -352,19 +330,16 @@ impl Sequence {
         ensures { result ≡ move_access due self }
     {
         match due {
-            Move::Keep(r) => Access::Read(r),
+            Move::Keep(r) | Move::Look(r) => Access::Read(r),
             Move::KeepClock => Access::Read(Register::CCR),
-            Move::Look(r) => Access::Read(r),
-            Move::Wait => Access::Read(Register::CR),
-            Move::WaitClock(_) => Access::Read(Register::CR),
-            Move::Size(_) => Access::Read(Register::PARAM),
-            Move::Sizes => Access::Read(Register::PARAM),
+            Move::Wait | Move::WaitClock(_) => Access::Read(Register::CR),
+            Move::Size(_) | Move::Sizes => Access::Read(Register::PARAM),
             Move::Arrived => Access::Read(Register::RSR),
             Move::Modify(c) => Access::Write(c.register(), self.apply(c, self.held)),
             Move::Set(c) => Access::Write(c.register(), self.apply(c, 0)),
             Move::Write(r, w) => Access::Write(r, w),
             Move::Put(r) => Access::Write(r, self.kept(r)),
-            Move::End => Access::Done(Ending::Ok),
+            Move::End => Access::Done(Ok(())),
         }
     }
 
@@ -375,48 +350,33 @@ impl Sequence {
         match due {
             Move::Keep(r) => self.keep(r, value).advance(),
             Move::KeepClock => {
-                let driver = self.driver;
-                self.keep(Register::CCR, with_cache(driver.ccr_cache(), value))
-                    .advance()
+                let ccr = with_cache(self.driver.ccr_cache(), value);
+                self.keep(Register::CCR, ccr).advance()
             }
             Move::Look(_) => self.hold(value).advance(),
-            Move::Wait => {
-                if enabled(value) {
-                    return self;
-                }
-                self.advance()
-            }
-            Move::WaitClock(c) => {
-                if enabled(value) {
-                    return self;
-                }
-                let driver = self.driver;
-                self.take(driver.with_clock(c)).advance()
-            }
-            Move::Size(d) => {
-                if 4 < exponent(d, value) {
-                    return self.refuse();
-                }
-                self.keep(Register::PARAM, value).advance()
-            }
-            Move::Sizes => {
-                if too_deep(value) {
-                    return self.refuse();
-                }
-                self.keep(Register::PARAM, value).advance()
-            }
+            Move::Wait | Move::WaitClock(_) if enabled(value) => self,
+            Move::Wait => self.advance(),
+            Move::WaitClock(c) => self.take(self.driver.with_clock(c)).advance(),
+            Move::Size(d) if 4 < exponent(d, value) => self.refuse(),
+            Move::Sizes if too_deep(value) => self.refuse(),
+            Move::Size(_) | Move::Sizes => self.keep(Register::PARAM, value).advance(),
             Move::Arrived => {
                 let s = self.keep(Register::RSR, value).advance();
                 if Field::Rsr(Rsr::RXEMPTY).read(value) == 0 {
-                    return s;
+                    s
+                } else {
+                    s.advance()
                 }
-                s.advance()
             }
-            Move::Modify(_) => self.advance(),
-            Move::Set(_) => self.advance(),
-            Move::Write(_, _) => self.advance(),
-            Move::Put(_) => self.advance(),
+            Move::Modify(_) | Move::Set(_) | Move::Write(_, _) | Move::Put(_) => self.advance(),
             Move::End => self,
         }
     }
+}
+
+// The move at a place of a table; past the table, End.
+pub(crate) fn move_at(moves: &[Move], place: usize) -> Move
+    ensures { result ≡ move_at moves.now place }
+{
+    moves.get(place).copied().unwrap_or(Move::End)
 }

@@ -23,10 +23,7 @@ impl SamplePoint {
     pub(crate) fn sample(self) -> u32
         ensures { result ≡ sample_of self }
     {
-        match self {
-            SamplePoint::Edge => 0,
-            SamplePoint::DelayedEdge => 1,
-        }
+        self as u32
     }
 }
 
@@ -35,9 +32,6 @@ impl PcsPolarity {
     pub(crate) fn pcspol(self) -> u32
         ensures { result ≡ pcspol_of self }
     {
-        match self {
-            PcsPolarity::ActiveLow => 0,
-            PcsPolarity::ActiveHigh => 1,
-        }
+        self as u32
     }
 }

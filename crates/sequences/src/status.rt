@@ -1,12 +1,13 @@
 // The status flags.
-ghost use Rattle.std.specs.Prelude.{◌≡◌, [], ◌∷◌};
+ghost use Rattle.std.specs.Prelude.{◌≡◌, [], ◌∷◌, map};
 ghost use Rattle.std.specs.Int.Bits.{bit_or};
-ghost use Rattle.manual.specs.declared.Sr.TheVariants.{TDF, RDF, WCF, FCF, TCF, TEF, REF, DMF, MBF};
-ghost use Rattle.sequences.specs.Status.{flagged, status_of, cleared};
+ghost use Rattle.sequences.specs.Status.{flagged, named, status_of, cleared};
+
+use std::ops::BitOr;
 
 #[derive(Clone, Copy)]
 pub struct Status {
-    bits: u32,
+    pub(crate) bits: u32,
 }
 
 impl Status {
@@ -28,59 +29,21 @@ impl Status {
 
     pub const TRANSMIT_DATA: Self = Status { bits: 0x0001 };
 
-    // Each constant is the flag's bit, as the manual has it.
-    fn busy() -> Self
-        ensures { result.bits ≡ flagged (MBF ∷ []) }
+    // Each constant is its flag's bit, as the manual has it.
+    fn named() -> [u32; 9]
+        ensures { result ≡ map (λ f. flagged (f ∷ [])) named }
     {
-        Self::BUSY
-    }
-
-    fn data_match() -> Self
-        ensures { result.bits ≡ flagged (DMF ∷ []) }
-    {
-        Self::DATA_MATCH
-    }
-
-    fn receive_error() -> Self
-        ensures { result.bits ≡ flagged (REF ∷ []) }
-    {
-        Self::RECEIVE_ERROR
-    }
-
-    fn transmit_error() -> Self
-        ensures { result.bits ≡ flagged (TEF ∷ []) }
-    {
-        Self::TRANSMIT_ERROR
-    }
-
-    fn transfer_complete() -> Self
-        ensures { result.bits ≡ flagged (TCF ∷ []) }
-    {
-        Self::TRANSFER_COMPLETE
-    }
-
-    fn frame_complete() -> Self
-        ensures { result.bits ≡ flagged (FCF ∷ []) }
-    {
-        Self::FRAME_COMPLETE
-    }
-
-    fn word_complete() -> Self
-        ensures { result.bits ≡ flagged (WCF ∷ []) }
-    {
-        Self::WORD_COMPLETE
-    }
-
-    fn receive_data() -> Self
-        ensures { result.bits ≡ flagged (RDF ∷ []) }
-    {
-        Self::RECEIVE_DATA
-    }
-
-    fn transmit_data() -> Self
-        ensures { result.bits ≡ flagged (TDF ∷ []) }
-    {
-        Self::TRANSMIT_DATA
+        [
+            Self::BUSY.bits,
+            Self::DATA_MATCH.bits,
+            Self::RECEIVE_ERROR.bits,
+            Self::TRANSMIT_ERROR.bits,
+            Self::TRANSFER_COMPLETE.bits,
+            Self::FRAME_COMPLETE.bits,
+            Self::WORD_COMPLETE.bits,
+            Self::RECEIVE_DATA.bits,
+            Self::TRANSMIT_DATA.bits,
+        ]
     }
 
     // The flags of a word that have a name.
@@ -98,7 +61,7 @@ impl Status {
         self.bits
     }
 
-    // The flags of both.
+    // The flags of both, as `|`; by the name that the documents have.
     pub fn union(self, other: Self) -> Self
         ensures { result ≡ record { bits = bit_or self.bits other.bits } }
     {
@@ -112,5 +75,15 @@ impl Status {
         ensures { result ≡ cleared self.bits }
     {
         self.bits & 0x3F00
+    }
+}
+
+impl BitOr for Status {
+    type Output = Self;
+
+    ghost bitor_gives = { λ a b r. r ≡ record { bits = bit_or a.bits b.bits } };
+
+    fn bitor(self, other: Self) -> Self {
+        self.union(other)
     }
 }

@@ -6,14 +6,16 @@ use borrow.Author.Tests.{ne_eqb}
 use Rattle.words.specs.declared.transaction.LpspiError.{LpspiError}
 use Rattle.words.specs.declared.transaction.LpspiError.TheVariants.{FrameSize}
 use Rattle.words.specs.declared.transaction.Transaction.{Transaction}
-use Rattle.words.specs.declared.transaction.TransactionResult.{TransactionResult}
-use Rattle.words.specs.declared.transaction.TransactionResult.TheVariants.{Ok as Made, Err as Refused}
+use Rattle.std.specs.Prelude.{Result, Ok as Made, Err as Refused}
+use Rattle.words.specs.declared.transaction.LpspiError.{LpspiError}
+use Rattle.words.specs.declared.transaction.Transaction.{Transaction}
 use Rattle.words.specs.declared.width.Width.{Width}
 use Rattle.words.specs.Buffer.{word_count}
 use Rattle.words.specs.Command.{command_answer, framed}
 use Rattle.words.specs.Width.{width_bits}
 use Rattle.words.proofs.CommandLaws.{accepted_word, refused_size}
-use Rattle.sequences.specs.declared.access.Ending.TheVariants.{Ok, Err}
+use Rattle.std.specs.Prelude.{Ok, Err}
+use Rattle.sequences.specs.declared.access.RunError.TheVariants.{Driver}
 use Rattle.sequences.specs.declared.driver.Lpspi.{Lpspi}
 use Rattle.machine.specs.declared.transfer.Transfer.{Transfer}
 use Rattle.sequences.specs.Driver.{driver_command}
@@ -29,11 +31,11 @@ module _ (x : Width) (d : Lpspi) (ways : Ways) (total : ℕ) where
   abbrev Begins : Transfer → Type 0
   Begins r = r ≡ begun bits d (length_plan bits ways total)
 
-  pub begins_empty : {r : Transfer} → total ≡ 0 → r ≡ ended_transfer d Ok → Begins r
+  pub begins_empty : {r : Transfer} → total ≡ 0 → r ≡ ended_transfer d (Ok tt) → Begins r
   begins_empty z er = er ∙ rw z
 
-  module _ (some : total ≡ 0 → ⊥) {t : TransactionResult} (ec : command_answer t ≡ framed (bits * total)) where
-    pub begins_refused : (u : LpspiError) → t ≡ Refused u → {r : Transfer} → r ≡ ended_transfer d (Err FrameSize) → Begins r
+  module _ (some : total ≡ 0 → ⊥) {t : Result Transaction LpspiError} (ec : command_answer t ≡ framed (bits * total)) where
+    pub begins_refused : (u : LpspiError) → t ≡ Refused u → {r : Transfer} → r ≡ ended_transfer d (Err (Driver FrameSize)) → Begins r
     begins_refused u eu er = er ∙ rw (ne_eqb total 0 some, refused_size (bits * total) u (ap command_answer (sym eu) ∙ ec))
 
     pub begins_made : (u : Transaction) → t ≡ Made u → {n plain command send receive : ℕ} → n ≡ word_count bits total

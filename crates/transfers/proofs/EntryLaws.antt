@@ -17,8 +17,9 @@ use Rattle.words.specs.Command.{frame_accepted, commanded}
 use Rattle.words.specs.Longer.{longer}
 use Rattle.words.specs.Width.{width_bits}
 use Rattle.words.proofs.BufferLaws.{laid_nothing, holds_one}
-use Rattle.sequences.specs.declared.access.Ending.{Ending}
-use Rattle.sequences.specs.declared.access.Ending.TheVariants.{Ok, Err, Limits}
+use Rattle.sequences.specs.Access.{Ending}
+use Rattle.std.specs.Prelude.{Ok, Err}
+use Rattle.sequences.specs.declared.access.RunError.TheVariants.{Driver, Limits}
 use Rattle.sequences.specs.declared.driver.Lpspi.{Lpspi}
 use Rattle.machine.specs.declared.transfer.Transfer.{Transfer}
 use Rattle.sequences.specs.Driver.{driver_command}
@@ -38,8 +39,8 @@ use Rattle.transfers.specs.Begin.{length_plan, words_transfer}
 use Rattle.transfers.proofs.TransferLaws.{longer_length, stored_elements, sent_packed, sent_in_place, accepted_words, blank_at}
 
 -- the total length of two buffers
-pub longer_total : {r : Bor (List ℕ)} (a b : Bor (List ℕ)) → r ≡ longer a b → length r.now ≡ max (length a.now) (length b.now)
-longer_total a b e = ap (λ (y : Bor (List ℕ)). length y.now) e ∙ longer_length a b
+pub longer_total : {E : Type 0} {r : Bor (List E)} (a b : Bor (List E)) → r ≡ longer a b → length r.now ≡ max (length a.now) (length b.now)
+longer_total {E} a b e = ap (λ (y : Bor (List E)). length y.now) e ∙ longer_length a b
 
 -- a transfer that is empty or refused makes no access
 still : (words : List ℕ → ℕ → ℕ) (script : List ℕ) (n : ℕ) (d : Lpspi) (e : Ending)
@@ -49,7 +50,7 @@ still words script n d e = run_halted due_access resumed words script n (start (
 
 -- number 5: nothing was done
 abbrev refused : Driven
-refused = record { ending = Limits; spot = record { made = 0; used = 0; received = 0 } }
+refused = record { ending = Err Limits; spot = record { made = 0; used = 0; received = 0 } }
 
 -- OVER ELEMENTS: the plan p begins as the frame does, and where the frame is accepted it sends the words that the code sends
 module _ (x : Width) (d : Lpspi) (ways : Ways) (b : Bool) (p : Plan) (buffer : List ℕ) (budget : ℕ) (script send log olds : List ℕ) where
@@ -62,19 +63,19 @@ module _ (x : Width) (d : Lpspi) (ways : Ways) (b : Bool) (p : Plan) (buffer : L
   -- the machine that begins, of two tests
   abbrev begin : Bool → Bool → Transfer
   begin z a =
-      cond z (ended_transfer d Ok)
+      cond z (ended_transfer d (Ok tt))
       (cond a (start_transfer d (commanded (λ w. p.command (driver_command d w)) (k * p.total)).value p.send p.receive)
-      (ended_transfer d (Err FrameSize)))
+      (ended_transfer d (Err (Driver FrameSize))))
 
   module _ (w : frame_accepted (k * p.total) ≡ true → (rs : List ℕ) (i : ℕ) → sent_from frame send olds rs i ≡ p.words rs i) where
     same_states : (z a : Bool) → frame_accepted (k * p.total) ≡ a
         → run due_access resumed (sent_from frame send olds) script budget (start (begin z a))
         ≡ run due_access resumed p.words script budget (start (begin z a))
-    same_states true a e = still (sent_from frame send olds) script budget d Ok ∙ sym (still p.words script budget d Ok)
+    same_states true a e = still (sent_from frame send olds) script budget d (Ok tt) ∙ sym (still p.words script budget d (Ok tt))
     same_states false true e =
         run_words due_access resumed script (sent_from frame send olds) p.words (w e) budget (start (begin false true))
     same_states false false e =
-        still (sent_from frame send olds) script budget d (Err FrameSize) ∙ sym (still p.words script budget d (Err FrameSize))
+        still (sent_from frame send olds) script budget d (Err (Driver FrameSize)) ∙ sym (still p.words script budget d (Err (Driver FrameSize)))
 
   module _ (places : frame_accepted (k * p.total) ≡ true → word_count k p.total ≤ length olds) where
     abbrev Shown : State Transfer → Type 0
@@ -86,11 +87,11 @@ module _ (x : Width) (d : Lpspi) (ways : Ways) (b : Bool) (p : Plan) (buffer : L
     none t = rw (zero-min (length olds))
 
     shown : (z a : Bool) → frame_accepted (k * p.total) ≡ a → Shown (run due_access resumed p.words script budget (start (begin z a)))
-    shown true a e = subst Shown (sym (still p.words script budget d Ok)) (none (ended_transfer d Ok))
+    shown true a e = subst Shown (sym (still p.words script budget d (Ok tt))) (none (ended_transfer d (Ok tt)))
     shown false true e =
         stored_elements d.order k p.total
         (run due_access resumed p.words script budget (start (begin false true))).received olds (holds_one x) (places e)
-    shown false false e = subst Shown (sym (still p.words script budget d (Err FrameSize))) (none (ended_transfer d (Err FrameSize)))
+    shown false false e = subst Shown (sym (still p.words script budget d (Err (Driver FrameSize)))) (none (ended_transfer d (Err (Driver FrameSize))))
 
   module _ (begins : begun k d (length_plan k ways p.total) ≡ begun k d p)
       (w : frame_accepted (k * p.total) ≡ true → (rs : List ℕ) (i : ℕ) → sent_from frame send olds rs i ≡ p.words rs i) where
@@ -153,53 +154,60 @@ zeros = replicate 128 0
 abbrev of : Width → ℕ → Bool → Frame
 of x n b = record { width = x; total = n; inplace = b }
 
+-- what was packed, and what is unpacked, at an equal order and total
+packed_of : (k : ℕ) {o o' : BitOrder} {n m : ℕ} (xs send : List ℕ) → o ≡ o' → n ≡ m → send ≡ laid (pack_words o k n xs) zeros
+    → send ≡ laid (pack_words o' k m xs) zeros
+packed_of k xs send eo en es = es ∙ ap₂ (λ (z : BitOrder) (i : ℕ). laid (pack_words z k i xs) zeros) eo en
+
+unpacked_of : (k : ℕ) (o : BitOrder) {n m : ℕ} (ws buf : List ℕ) {buf' : List ℕ} → n ≡ m → buf' ≡ laid (unpack_words o k n ws) buf
+    → buf' ≡ laid (unpack_words o k m ws) buf
+unpacked_of k o ws buf en eb = eb ∙ ap (λ (i : ℕ). laid (unpack_words o k i ws) buf) en
+
+-- The code's width and total are equal to those of the elements' type and numbers.
 module _ (x : Width) (d : Lpspi) (budget : ℕ) (script log : List ℕ) {y : Driven} {log' words' : List ℕ} {r : RunResult}
-    (er : r ≡ result_of d y) where
-  module _ {o : BitOrder} (eo : o ≡ d.order) where
-    pub separate_left : (read write : List ℕ) (n : ℕ) → n ≡ max (length read) (length write) → (send : List ℕ) {read' : List ℕ}
-        → send ≡ laid (pack_words o (width_bits x) n write) zeros
-        → driven_left y log' words' ≡ words_transfer d Both (of x n false) budget script send log zeros
-        → read' ≡ laid (unpack_words o (width_bits x) n (take y.spot.received words')) read
-        → transfer_left r log' read' ≡ exchange_separate (width_bits x) d read write budget script log
-    separate_left read write n en send es e eb =
-        let m = max (length read) (length write) in
-        entry_over x d Both false (separate_plan (width_bits x) d read write) read budget script send log zeros refl
-        (λ a.
-        sent_packed (of x m false) d.order m write zeros (blank_at 128) (accepted_words x m a) send
-        (es ∙ ap₂ (λ (z : BitOrder) (i : ℕ). laid (pack_words z (width_bits x) i write) zeros) eo en) refl zeros)
-        (accepted_words x m) (e ∙ ap (λ (i : ℕ). words_transfer d Both (of x i false) budget script send log zeros) en) er eo
-        (eb ∙ ap (λ (i : ℕ). laid (unpack_words o (width_bits x) i (take y.spot.received words')) read) en)
+    (er : r ≡ result_of d y) {o : BitOrder} (eo : o ≡ d.order) (v : Width) (ev : v ≡ x) (n : ℕ) where
+  moved_of : (ways : Ways) (b : Bool) (send places : List ℕ) {m : ℕ} → n ≡ m
+      → driven_left y log' words' ≡ words_transfer d ways (of v n b) budget script send log places
+      → driven_left y log' words' ≡ words_transfer d ways (of x m b) budget script send log places
+  moved_of ways b send places en e = e ∙ ap₂ (λ (w : Width) (i : ℕ). words_transfer d ways (of w i b) budget script send log places) ev en
 
-    pub in_place_left : (buf send : List ℕ) {buf' : List ℕ} → send ≡ laid (pack_words o (width_bits x) (length buf) buf) zeros
-        → driven_left y log' words' ≡ words_transfer d Both (of x (length buf) true) budget script send log zeros
-        → buf' ≡ laid (unpack_words o (width_bits x) (length buf) (take y.spot.received words')) buf
-        → transfer_left r log' buf' ≡ exchange (width_bits x) d buf budget script log
-    in_place_left buf send es e eb =
-        entry_over x d Both true (in_place_plan (width_bits x) d buf) buf budget script send log zeros refl
-        (λ a rs i.
-        sent_in_place (of x (length buf) true) d.order (length buf) buf zeros (blank_at 128)
-        (accepted_words x (length buf) a) send
-        (es ∙ ap (λ (z : BitOrder). laid (pack_words z (width_bits x) (length buf) buf) zeros) eo) refl refl refl zeros rs i refl)
-        (accepted_words x (length buf)) e er eo eb
+  pub separate_left : (read write : List ℕ) → n ≡ max (length read) (length write) → (send : List ℕ) {read' : List ℕ}
+      → send ≡ laid (pack_words o (width_bits x) n write) zeros
+      → driven_left y log' words' ≡ words_transfer d Both (of v n false) budget script send log zeros
+      → read' ≡ laid (unpack_words o (width_bits x) n (take y.spot.received words')) read
+      → transfer_left r log' read' ≡ exchange_separate (width_bits x) d read write budget script log
+  separate_left read write en send es e eb =
+      let m = max (length read) (length write) in
+      entry_over x d Both false (separate_plan (width_bits x) d read write) read budget script send log zeros refl
+      (λ a. sent_packed (of x m false) d.order m write zeros (blank_at 128) (accepted_words x m a) send (packed_of (width_bits x) write send eo en es) refl zeros)
+      (accepted_words x m) (moved_of Both false send zeros en e) er eo (unpacked_of (width_bits x) o _ read en eb)
 
-    pub write_left : (buf send : List ℕ) → send ≡ laid (pack_words o (width_bits x) (length buf) buf) zeros
-        → driven_left y log' words' ≡ words_transfer d Sends (of x (length buf) false) budget script send log []
-        → transfer_left r log' [] ≡ write_no_read (width_bits x) d buf budget script log
-    write_left buf send es e =
-        entry_left x d Sends false (write_plan (width_bits x) d buf) [] budget script send log [] refl
-        (λ a. sent_packed (of x (length buf) false) d.order (length buf) buf zeros (blank_at 128) (accepted_words x (length buf) a) send
-        (es ∙ ap (λ (z : BitOrder). laid (pack_words z (width_bits x) (length buf) buf) zeros) eo) refl [])
-        (λ _. []) refl
-        (sym
-        (laid_nothing
-        (unpack_words d.order (width_bits x) (length buf)
-        (transfer_states (width_bits x) d (write_plan (width_bits x) d buf) script budget).received)))
-        e er
+  pub in_place_left : (buf : List ℕ) → n ≡ length buf → (send : List ℕ) {buf' : List ℕ} → send ≡ laid (pack_words o (width_bits x) n buf) zeros
+      → driven_left y log' words' ≡ words_transfer d Both (of v n true) budget script send log zeros
+      → buf' ≡ laid (unpack_words o (width_bits x) n (take y.spot.received words')) buf
+      → transfer_left r log' buf' ≡ exchange (width_bits x) d buf budget script log
+  in_place_left buf en send es e eb =
+      let m = length buf in
+      entry_over x d Both true (in_place_plan (width_bits x) d buf) buf budget script send log zeros refl
+      (λ a rs i.
+      sent_in_place (of x m true) d.order m buf zeros (blank_at 128) (accepted_words x m a) send (packed_of (width_bits x) buf send eo en es) refl refl refl zeros rs i refl)
+      (accepted_words x m) (moved_of Both true send zeros en e) er eo (unpacked_of (width_bits x) o _ buf en eb)
 
-    pub read_left : (buf : List ℕ) {buf' : List ℕ}
-        → driven_left y log' words' ≡ words_transfer d Receives (of x (length buf) false) budget script [] log zeros
-        → buf' ≡ laid (unpack_words o (width_bits x) (length buf) (take y.spot.received words')) buf
-        → transfer_left r log' buf' ≡ read_no_write (width_bits x) d buf budget script log
-    read_left buf e eb =
-        entry_over x d Receives false (read_plan (width_bits x) d buf) buf budget script [] log zeros refl (λ a rs i. refl)
-        (accepted_words x (length buf)) e er eo eb
+  pub write_left : (buf : List ℕ) → n ≡ length buf → (send : List ℕ) → send ≡ laid (pack_words o (width_bits x) n buf) zeros
+      → driven_left y log' words' ≡ words_transfer d Sends (of v n false) budget script send log []
+      → transfer_left r log' [] ≡ write_no_read (width_bits x) d buf budget script log
+  write_left buf en send es e =
+      let m = length buf in
+      entry_left x d Sends false (write_plan (width_bits x) d buf) [] budget script send log [] refl
+      (λ a. sent_packed (of x m false) d.order m buf zeros (blank_at 128) (accepted_words x m a) send (packed_of (width_bits x) buf send eo en es) refl [])
+      (λ _. []) refl
+      (sym (laid_nothing (unpack_words d.order (width_bits x) m (transfer_states (width_bits x) d (write_plan (width_bits x) d buf) script budget).received)))
+      (moved_of Sends false send [] en e) er
+
+  pub read_left : (buf : List ℕ) → n ≡ length buf → {buf' : List ℕ}
+      → driven_left y log' words' ≡ words_transfer d Receives (of v n false) budget script [] log zeros
+      → buf' ≡ laid (unpack_words o (width_bits x) n (take y.spot.received words')) buf
+      → transfer_left r log' buf' ≡ read_no_write (width_bits x) d buf budget script log
+  read_left buf en e eb =
+      entry_over x d Receives false (read_plan (width_bits x) d buf) buf budget script [] log zeros refl (λ a rs i. refl)
+      (accepted_words x (length buf)) (moved_of Receives false [] zeros en e) er eo (unpacked_of (width_bits x) o _ buf en eb)

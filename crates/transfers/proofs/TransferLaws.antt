@@ -26,7 +26,7 @@ use Rattle.runs.specs.declared.drive.Frame.{Frame}
 use Rattle.runs.specs.Drive.{stored, sent_from}
 
 -- THE TOTAL LENGTH
-pub longer_length : (r w : Bor (List ℕ)) → length (longer r w).now ≡ max (length r.now) (length w.now)
+pub longer_length : {E : Type 0} (r w : Bor (List E)) → length (longer r w).now ≡ max (length r.now) (length w.now)
 unfolding longer
 longer_length r w = by_test (ltb (length w.now) (length r.now)) refl
   where

@@ -1,12 +1,12 @@
 -- The four transfers as runs (document 01, Accesses and transfers), for elements of k bits.
 -- Assumes nothing.
-use Rattle.std.specs.Prelude.{ℕ, ◌*◌, max, true, cond, List, [], eqb, length}
+use Rattle.std.specs.Prelude.{ℕ, ◌*◌, max, true, cond, List, [], eqb, length, Ok, Err}
 use Rattle.manual.specs.declared.Tcr.TheVariants.{RXMSK, TXMSK}
 use Rattle.words.specs.declared.transaction.LpspiError.TheVariants.{FrameSize}
 use Rattle.words.specs.Word.{laid}
 use Rattle.words.specs.Buffer.{word_count, word_at, unpack_words}
 use Rattle.words.specs.Command.{frame_accepted, commanded, set_flag}
-use Rattle.sequences.specs.declared.access.Ending.TheVariants.{Ok, Err}
+use Rattle.sequences.specs.declared.access.RunError.TheVariants.{Driver}
 use Rattle.sequences.specs.declared.driver.Lpspi.{Lpspi}
 use Rattle.machine.specs.declared.transfer.Transfer.{Transfer}
 use Rattle.sequences.specs.Driver.{driver_command}
@@ -27,9 +27,9 @@ pub record Plan : Type 0 where
 abbrev pub begun : ℕ → Lpspi → Plan → Transfer
 begun k d p =
     let f = k * p.total in
-    cond (eqb p.total 0) (ended_transfer d Ok)
+    cond (eqb p.total 0) (ended_transfer d (Ok tt))
     (cond (frame_accepted f) (start_transfer d (commanded (λ w. p.command (driver_command d w)) f).value p.send p.receive)
-    (ended_transfer d (Err FrameSize)))
+    (ended_transfer d (Err (Driver FrameSize))))
 
 -- what a transfer leaves: what every call leaves, and its buffer
 pub record TransferLeft : Type 0 where

@@ -5,9 +5,9 @@ ghost use Rattle.transfers.specs.Transfers.{begun};
 ghost use Rattle.transfers.specs.Begin.{sends_of, receives_of, masked_by, length_plan};
 
 use machine::transfer::Transfer;
-use sequences::access::Ending;
+use sequences::access::RunError;
 use sequences::driver::Lpspi;
-use words::transaction::{LpspiError, Transaction, TransactionResult};
+use words::transaction::{LpspiError, Transaction};
 use words::width::Width;
 
 // The sides that a transfer has.
@@ -58,10 +58,10 @@ pub fn begin(driver: Lpspi, ways: Ways, width: Width, total: usize) -> Transfer
     ensures { result ≡ begun (width_bits width) driver (length_plan (width_bits width) ways total) }
 {
     if total == 0 {
-        return Transfer::ended(driver, Ending::Ok);
+        return Transfer::ended(driver, Ok(()));
     }
-    let TransactionResult::Ok(transaction) = Transaction::new_words(width, total) else {
-        return Transfer::ended(driver, Ending::Err(LpspiError::FrameSize));
+    let Ok(transaction) = Transaction::new_elements(width, total) else {
+        return Transfer::ended(driver, Err(RunError::Driver(LpspiError::FrameSize)));
     };
     let n = width.word_count(total);
     Transfer::start(

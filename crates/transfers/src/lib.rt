@@ -1,4 +1,5 @@
-// The transfers: calls of the driver with their buffers, each one run.
+// The transfers: calls of the driver with their buffers, each one run. The four have the Rust's names; what they share is `entry`. (Why
+// driver, budget, script and log are parameters of their own: `calls`.)
 #![tactic(auto)]
 
 pub mod begin;

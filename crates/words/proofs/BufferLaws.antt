@@ -8,29 +8,24 @@ use native.Mathlib.Numerals.{add-one, sub-one}
 use native.Mathlib.Omega.{arith}
 use native.Mathlib.Nat.{le_trans, mul-one, mul-add, mul-div-le, mul-suc, mul-zero, mul_comm, sub-zero, zero-sub, sub-eq-zero_of_le}
 use native.Mathlib.Nat.{zero-min, min-zero, suc-min-suc, suc-sub-suc, lt-div-mul-add, mul-le-mul_left}
-use borrow.Author.Tests.{leb-true, leb-false, eqb-true, le-leb, lt-leb}
+use borrow.Author.Tests.{eqb-true, le-leb}
 use borrow.Rule.Slice.PartMut.{put_mid}
-use lib.Dec.{leb, eqb}
+use lib.Dec.{eqb}
 use lib.ListN.{length, get_or, take, drop, set, length-drop, length-append, drop_of_length-le, take-append-drop}
+use Rattle.std.proofs.Common.{inl, inr}
+use Rattle.std.proofs.lemmas.Bool.{cases_lt}
+use Rattle.std.proofs.lemmas.List.{length-take-le, take_more, take_at, drop-take}
 use lib.Pow.{pow_pos, ones_lt}
-use lib.Seq.{get_or-drop, drop-nil, drop-drop, drop_at, take_all}
+use lib.Seq.{get_or-drop, drop-nil, drop-drop, drop_at, take_all, take-take}
 use Rattle.words.specs.declared.order.BitOrder.{BitOrder}
 use Rattle.words.specs.declared.order.BitOrder.TheVariants.{Msb, Lsb}
 use Rattle.words.specs.declared.width.Width.{Width}
 use Rattle.words.specs.declared.width.Width.TheVariants.{U8, U16, U32}
 use Rattle.words.specs.Width.{width_bits}
-use Rattle.words.specs.Word.{joined, first, pack, unpack, reversed, per_word, laid, packed, unpacked_number, unpack_count, unpacked}
-use Rattle.words.specs.Answer.{ok, refused, too_many_number}
+use Rattle.words.specs.Word.{joined, first, pack, unpack, reversed, per_word, laid, packed, unpack_count, unpacked}
+use Rattle.words.specs.Answer.{ok}
 use Rattle.words.specs.Buffer.{dummy, word_count, count_at, filled, tabulate, word_at, pack_words, unpack_words}
-use Rattle.words.proofs.WordLaws.{Elements, pack_lt, pack_last, unpack_pack, pack_unpack, length_unpack}
-
--- ELEMENTS
-
--- inside the list the default does not matter
-pub within : (xs : List ℕ) (i d e : ℕ) → i < length xs → get_or xs i d ≡ get_or xs i e
-within [] i d e h = absurd (omega arith)
-within (x ∷ xs) zero d e h = refl
-within (x ∷ xs) (suc i) d e h = within xs i d e (omega arith)
+use Rattle.words.proofs.WordLaws.{Elements, pack_last, unpack_pack, pack_unpack, length_unpack}
 
 -- FILLED
 
@@ -39,14 +34,14 @@ length_filled d zero xs = refl
 length_filled d (suc n) [] = ap suc (length_filled d n [])
 length_filled d (suc n) (x ∷ xs) = ap suc (length_filled d n xs)
 
-pub elements_filled : (k d n : ℕ) (xs : List ℕ) → d < 2 ^ k → Elements k xs → Elements k (filled d n xs)
+elements_filled : (k d n : ℕ) (xs : List ℕ) → d < 2 ^ k → Elements k xs → Elements k (filled d n xs)
 elements_filled k d zero xs h b i = pow_pos k
 elements_filled k d (suc n) [] h b zero = h
 elements_filled k d (suc n) [] h b (suc i) = elements_filled k d n [] h b i
 elements_filled k d (suc n) (x ∷ xs) h b zero = b 0
 elements_filled k d (suc n) (x ∷ xs) h b (suc i) = elements_filled k d n xs h (λ j. b (suc j)) i
 
-pub elements_drop : (k n : ℕ) (xs : List ℕ) → Elements k xs → Elements k (drop n xs)
+elements_drop : (k n : ℕ) (xs : List ℕ) → Elements k xs → Elements k (drop n xs)
 elements_drop k n xs b i = rw get_or-drop (b (n + i))
 
 -- nothing is filled in where there are enough
@@ -60,12 +55,6 @@ filled_last d zero (x ∷ xs) = refl
 filled_last d (suc n) [] = ap (λ (l : List ℕ). d ∷ l) (filled_last d n [])
 filled_last d (suc n) (x ∷ xs) = ap (λ (l : List ℕ). x ∷ l) (filled_last d n xs)
 
--- a word of n elements fits n elements, and grows by one
-pub word_lt : (o : BitOrder) (k d n : ℕ) (xs : List ℕ) → d < 2 ^ k → Elements k xs → pack o k (filled d n xs) < 2 ^ (k * n)
-word_lt o k d n xs h b =
-    subst (λ (m : ℕ). pack o k (filled d n xs) < 2 ^ (k * m)) (length_filled d n xs)
-    (pack_lt o k (filled d n xs) (elements_filled k d n xs h b))
-
 pub word_step : (o : BitOrder) (k d n at x w r : ℕ) (xs : List ℕ) → x ≡ get_or xs (at + n) d → w ≡ pack o k (filled d n (drop at xs))
     → r ≡ joined (reversed o) k n x w → r ≡ pack o k (filled d (n + 1) (drop at xs))
 word_step o k d n at x w r xs ex ew er =
@@ -77,19 +66,21 @@ word_step o k d n at x w r xs ex ew er =
     ∙ ap (pack o k) (sym (filled_last d n ys))
     ∙ ap (λ (m : ℕ). pack o k (filled d m ys)) (sym (add-one n))
 
+-- a word of the first i elements grows by one
+pub word_more : (o : BitOrder) (k i x w r : ℕ) (ns : List ℕ) → i < length ns → x ≡ get_or ns i 0 → w ≡ pack o k (take i ns)
+    → r ≡ joined (reversed o) k i x w → r ≡ pack o k (take (i + 1) ns)
+word_more o k i x w r ns h ex ew er =
+    let n : length (take i ns) ≡ i = length-take-le i ns (omega arith) in
+    er
+    ∙ ap₂ (λ (y v : ℕ). joined (reversed o) k i y v) ex ew
+    ∙ ap (λ (m : ℕ). joined (reversed o) k m (get_or ns i 0) (pack o k (take i ns))) (sym n)
+    ∙ sym (pack_last o k (take i ns) (get_or ns i 0))
+    ∙ ap (pack o k) (sym (take_more ns i 0 h))
+
 -- width 32: the word is the element, in both orders
 pub word_one : (o : BitOrder) (x : ℕ) → pack o 32 (x ∷ []) ≡ x
 word_one Msb x = omega arith
 word_one Lsb x = omega arith
-
-pub word_none : (o : BitOrder) (k : ℕ) (xs : List ℕ) → length xs ≡ 0 → 0 ≡ pack o k xs
-word_none o k [] h = refl
-word_none o k (x ∷ xs) h = absurd (omega arith)
-
-pub word_single : (o : BitOrder) (xs : List ℕ) → length xs ≤ 1 → (length xs ≡ 0 → ⊥) → get_or xs 0 0 ≡ pack o 32 xs
-word_single o [] h n = absurd (n refl)
-word_single o (x ∷ []) h n = sym (word_one o x)
-word_single o (x ∷ (y ∷ ys)) h n = absurd (omega arith)
 
 first_one : (o : BitOrder) (w : ℕ) → w < 2 ^ 32 → first o 32 0 w ≡ w
 first_one Msb w h = omega arith
@@ -122,14 +113,6 @@ pub laid_nothing : (xs : List ℕ) → laid xs [] ≡ []
 laid_nothing [] = refl
 laid_nothing (x ∷ xs) = refl
 
-pub laid_full : (xs bs : List ℕ) → length bs ≡ 0 → bs ≡ laid xs bs
-laid_full xs [] h = sym (laid_nothing xs)
-laid_full xs (b ∷ bs) h = absurd (omega arith)
-
-pub laid_one : (o : BitOrder) (w : ℕ) (bs : List ℕ) → w < 2 ^ 32 → 0 < length bs → set bs 0 w ≡ laid (unpack o 32 1 w) bs
-laid_one o w [] h n = absurd (omega arith)
-laid_one o w (b ∷ bs) h n = ap (λ (x : ℕ). x ∷ bs) (sym (first_one o w h))
-
 laid_whole : (xs bs : List ℕ) → length xs ≡ length bs → laid xs bs ≡ xs
 laid_whole [] [] h = refl
 laid_whole [] (b ∷ bs) h = absurd (omega arith)
@@ -137,14 +120,14 @@ laid_whole (x ∷ xs) [] h = absurd (omega arith)
 laid_whole (x ∷ xs) (b ∷ bs) h = ap (λ (l : List ℕ). x ∷ l) (laid_whole xs bs (omega arith))
 
 -- what has no room is dropped
-pub laid_dropped : (xs ys bs : List ℕ) → length bs ≤ length xs → laid (xs ++ ys) bs ≡ laid xs bs
+laid_dropped : (xs ys bs : List ℕ) → length bs ≤ length xs → laid (xs ++ ys) bs ≡ laid xs bs
 laid_dropped [] ys [] h = laid_nothing ys
 laid_dropped [] ys (b ∷ bs) h = absurd (omega arith)
 laid_dropped (x ∷ xs) ys [] h = refl
 laid_dropped (x ∷ xs) ys (b ∷ bs) h = ap (λ (l : List ℕ). x ∷ l) (laid_dropped xs ys bs (omega arith))
 
 -- elements after elements: those that come second go where the first end
-pub laid_append : (xs ys bs : List ℕ) → laid (xs ++ ys) bs ≡ take (length xs) (laid xs bs) ++ laid ys (drop (length xs) (laid xs bs))
+laid_append : (xs ys bs : List ℕ) → laid (xs ++ ys) bs ≡ take (length xs) (laid xs bs) ++ laid ys (drop (length xs) (laid xs bs))
 laid_append [] ys bs = refl
 laid_append (x ∷ xs) ys [] = sym (laid_nothing ys)
 laid_append (x ∷ xs) ys (b ∷ bs) = ap (λ (l : List ℕ). x ∷ l) (laid_append xs ys bs)
@@ -181,7 +164,7 @@ pub store_stop : (n m : ℕ) (f g : ℕ → ℕ) (bs ws : List ℕ) → n ≤ m 
 store_stop n m f g bs ws h s e ew = ew ∙ laid_stop n m f bs h s ∙ ap (λ (l : List ℕ). laid l bs) (tabulate_same m f g e)
 
 -- elements that have room in the first m places, or are laid over all there are
-laid_part : (m : ℕ) (xs bs : List ℕ) → (m < length bs → length xs ≤ m) → laid xs (take m bs) ++ drop m bs ≡ laid xs bs
+pub laid_part : (m : ℕ) (xs bs : List ℕ) → (m < length bs → length xs ≤ m) → laid xs (take m bs) ++ drop m bs ≡ laid xs bs
 laid_part m [] bs h = take-append-drop m bs
 laid_part zero (x ∷ xs) [] h = refl
 laid_part zero (x ∷ xs) (b ∷ bs) h = let l = h (omega arith) in absurd (omega arith)
@@ -272,6 +255,24 @@ holds_one U8 = omega arith
 holds_one U16 = omega arith
 holds_one U32 = omega arith
 
+-- what `per_word` answers for the width that `width` answered
+pub per_width : {p : ℕ} {v w : Width} → p ≡ per_word (width_bits v) → v ≡ w → p ≡ per_word (width_bits w)
+per_width e h = e ∙ ap (λ (w : Width). per_word (width_bits w)) h
+
+-- the places of word i of n
+pub within_words : (p i n : ℕ) → i < n → p * i + p ≤ p * n
+within_words p i n h = omega (arith, mul-le-mul_left p h, mul-suc p i)
+
+-- whole words of e elements
+pub whole_fit : (p n e : ℕ) → n ≤ e / p → p * n ≤ e
+whole_fit p n e h = le_trans (mul-le-mul_left p h) (mul-div-le e p)
+
+-- whole words take as many words
+pub count_whole : (w : Width) (n : ℕ) → word_count (width_bits w) (per_word (width_bits w) * n) ≡ n
+count_whole U8 n = omega arith
+count_whole U16 n = omega arith
+count_whole U32 n = omega arith
+
 pub enough_words : (k total : ℕ) → 0 < per_word k → total ≤ per_word k * word_count k total
 enough_words k total h =
     omega (arith, lt-div-mul-add {a = total + (per_word k - 1)} {b = per_word k} h, mul_comm (per_word k) (word_count k total))
@@ -291,25 +292,30 @@ whole_words k n e total len size h en ee =
           rw (← ee, same) (omega (arith, mul_comm q (per_word k), mul-add (per_word k) q 1, mul-one (per_word k))),
     )
 
--- ONE WORD, with the number
+-- THE PARTS of p elements of the first p n: each turn takes part i off, and the last leaves less than a part
+pub part_turn : {X : Type 0} (p i n : ℕ) (xs part rest : List X) → 0 < p → p * n ≤ length xs → length part ≡ p
+    → drop (p * i) (take (p * n) xs) ≡ part ++ rest
+    → (i < n) × (part ≡ take p (drop (p * i) xs)) × (rest ≡ drop (p * (i + 1)) (take (p * n) xs))
+part_turn p i n xs part rest hp hx hl e =
+    let zs = take (p * n) xs in
+    let all = ap length e ∙ length-append part rest in
+    let room : p * i + p ≤ p * n = omega (arith, all, length-drop (p * i) zs, length-take-le (p * n) xs hx, hl) in (
+      elim (cases_lt i n) [ inl l ↦ l | inr l ↦ absurd (omega (arith, mul-le-mul_left p l, room)) ],
+      sym (take_at part rest p hl)
+          ∙ ap (take p) (sym e ∙ ap (λ (m : ℕ). drop (p * i) (take m xs)) (omega (arith, room)) ∙ drop-take (p * i) (p * n - p * i) xs)
+          ∙ take-take p (p * n - p * i) (drop (p * i) xs) (omega (arith, room)),
+      sym (drop_at part rest p hl)
+          ∙ ap (drop p) (sym e)
+          ∙ drop-drop p (p * i) zs
+          ∙ ap (λ (m : ℕ). drop m zs) (omega (arith, mul-add p i 1, mul-one p)),
+    )
 
-pub packed_few : (o : BitOrder) (k w : ℕ) (xs : List ℕ) → length xs ≤ per_word k → w ≡ pack o k xs → ok w ≡ packed o k xs
-packed_few o k w xs h e = simp (le-leb (length xs) (per_word k) h, e)
-
-pub packed_many : (o : BitOrder) (k : ℕ) (xs : List ℕ) → per_word k < length xs → refused too_many_number ≡ packed o k xs
-packed_many o k xs h = simp (lt-leb (length xs) (per_word k) h)
-
--- a number and a buffer, as the contracts of unpacking have them
-abbrev Unpacked : BitOrder → ℕ → ℕ → ℕ → List ℕ → ℕ → List ℕ → Type 0
-Unpacked o k c w bs n ys = (n ≡ unpacked_number k c) × (ys ≡ unpacked o k c w bs)
-
-pub unpacked_many : (o : BitOrder) (k c w : ℕ) (bs : List ℕ) → per_word k < c → Unpacked o k c w bs too_many_number bs
-unpacked_many o k c w bs h = let e = lt-leb c (per_word k) h in (simp e, simp e)
-
-pub unpacked_few : (o : BitOrder) (k c n w : ℕ) (bs ys : List ℕ) → c ≤ per_word k → unpack_count k c ≡ n
-    → ys ≡ laid (unpack o k n w) bs → Unpacked o k c w bs 0 ys
-unpacked_few o k c n w bs ys h en ey =
-    let e = le-leb c (per_word k) h in (simp e, ey ∙ ap (λ (m : ℕ). laid (unpack o k m w) bs) (sym en) ∙ simp e)
+pub part_end : {X : Type 0} (p i n : ℕ) (xs : List X) → i ≤ n → p * n ≤ length xs → length (drop (p * i) (take (p * n) xs)) < p → i ≡ n
+part_end p i n xs hi hx h =
+    elim (cases_lt i n) [
+      | inl l ↦ absurd (omega (arith, within_words p i n l, length-drop (p * i) (take (p * n) xs), length-take-le (p * n) xs hx))
+      | inr l ↦ omega arith
+    ]
 
 -- THERE AND BACK through the word entries, for a count of 1 or more
 counted : (k c : ℕ) → 1 ≤ c → c ≤ per_word k → unpack_count k c ≡ c
@@ -348,40 +354,34 @@ unpack_step o k total i at m c w ws bs out ys hi ht ea ec ew eo ey hm =
     ∙ ap (λ (l : List ℕ). laid l bs) (sym (unpack_last o k total i ws hi))
     ∙ ap (λ (m : ℕ). laid (unpack_words o k total (take m ws)) bs) (sym (add-one i))
 
-by_order : {P : Type 0} (m n : ℕ) → (m ≤ n → P) → (n < m → P) → P
-by_order {P} m n f g = decide (leb m n) refl
-  where
-    decide : (b : Bool) → leb m n ≡ b → P
-    decide true e = f (leb-true m n e)
-    decide false e = g (leb-false m n e)
-
 pub unpack_stop : (o : BitOrder) (k total n : ℕ) (ws bs : List ℕ) → n ≤ length ws → (n < length ws → min total (length bs) ≤ per_word k * n)
     → laid (unpack_words o k total (take n ws)) bs ≡ laid (unpack_words o k total ws) bs
 unpack_stop o k total n ws bs h s =
-    by_order (length ws) n
-    (λ l. ap (λ (x : List ℕ). laid (unpack_words o k total x) bs) (take_all n ws l))
-    (λ l. by_order total (per_word k * n)
-    (λ t. ap (λ (x : List ℕ). laid x bs) (unpack_past o k total n ws t))
-    (λ (t : per_word k * n < total).
-    let m = s l in
-    sym (ap (λ (x : List ℕ). laid x bs) (unpack_split o k total n ws)
-    ∙ laid_dropped (unpack_words o k total (take n ws)) (unpack_words o k (total - per_word k * n) (drop n ws)) bs
-    (omega (arith, unpack_length o k total n ws h (omega arith))))))
+    elim (cases_lt n (length ws)) [
+      | inr l ↦ ap (λ (x : List ℕ). laid (unpack_words o k total x) bs) (take_all n ws l)
+      | inl l ↦
+          elim (cases_lt (per_word k * n) total) [
+            | inr t ↦ ap (λ (x : List ℕ). laid x bs) (unpack_past o k total n ws t)
+            | inl t ↦
+                let m = s l in
+                sym (ap (λ (x : List ℕ). laid x bs) (unpack_split o k total n ws)
+                ∙ laid_dropped (unpack_words o k total (take n ws)) (unpack_words o k (total - per_word k * n) (drop n ws)) bs
+                (omega (arith, unpack_length o k total n ws h (omega arith))))
+          ]
+    ]
 
 -- a whole word of elements that are all there
-filled_whole : (d e n : ℕ) (xs : List ℕ) → n ≤ length xs → filled d n xs ≡ tabulate n (λ (j : ℕ). get_or xs j e)
-filled_whole d e zero xs h = refl
-filled_whole d e (suc n) [] h = absurd (omega arith)
-filled_whole d e (suc n) (x ∷ xs) h = ap (λ (l : List ℕ). x ∷ l) (filled_whole d e n xs (omega arith))
+filled_enough : (d n : ℕ) (xs : List ℕ) → n ≤ length xs → filled d n xs ≡ take n xs
+filled_enough d zero xs h = refl
+filled_enough d (suc n) [] h = absurd (omega arith)
+filled_enough d (suc n) (x ∷ xs) h = ap (λ (l : List ℕ). x ∷ l) (filled_enough d n xs (omega arith))
 
 pub word_whole : (o : BitOrder) (k total i at : ℕ) (xs : List ℕ) → at ≡ per_word k * i → at + per_word k ≤ length xs → at + per_word k ≤ total
-    → pack o k (tabulate (per_word k) (λ (j : ℕ). get_or xs (at + j) 0)) ≡ word_at o k total xs i
+    → pack o k (take (per_word k) (drop at xs)) ≡ word_at o k total xs i
 word_whole o k total i at xs ea hx ht =
     let n : count_at k total i ≡ per_word k = omega arith in
-    ap (pack o k)
-    (tabulate_same (per_word k) (λ (j : ℕ). get_or xs (at + j) 0) (λ (j : ℕ). get_or (drop at xs) j 0) (λ j h. sym (get_or-drop at xs j 0))
-    ∙ sym (filled_whole (dummy k) 0 (per_word k) (drop at xs) (omega (arith, length-drop at xs)))
-    ∙ ap₂ (λ (m p : ℕ). filled (dummy k) m (drop p xs)) (sym n) ea)
+    ap (pack o k) (sym (filled_enough (dummy k) (per_word k) (drop at xs) (omega (arith, length-drop at xs))))
+    ∙ ap₂ (λ (m p : ℕ). pack o k (filled (dummy k) m (drop p xs))) (sym n) ea
 
 -- which does not depend on how much longer the transfer is
 word_prefix : (o : BitOrder) (k total n i : ℕ) (xs : List ℕ) → i < n → per_word k * n ≤ total
@@ -453,16 +453,17 @@ unpack_pack_words o k total xs h b = unpack_packed o k (word_count k total) tota
 pub drop_unpacked : (o : BitOrder) (k total w : ℕ) (ws : List ℕ)
     → drop (per_word k) (unpack_words o k total (w ∷ ws)) ≡ unpack_words o k (total - per_word k) ws
 drop_unpacked o k total w ws =
-    by_order (per_word k) total
-    (λ (l : per_word k ≤ total). drop_at here later (per_word k) (length_unpack o k (min (per_word k) total) w ∙ omega arith))
-    (λ (l : total < per_word k).
-    let none : later ≡ [] =
-    ap (λ (m : ℕ). unpack_words o k m ws) (sub-eq-zero_of_le {n = total} {m = per_word k} (omega arith))
-    ∙ unpack_nothing o k ws in
-    ap (λ (x : List ℕ). drop (per_word k) (here ++ x)) none
-    ∙ drop_of_length-le (here ++ []) {i = per_word k}
-    (omega (arith, length-append here [], length_unpack o k (min (per_word k) total) w))
-    ∙ sym none)
+    elim (cases_lt total (per_word k)) [
+      | inr l ↦ drop_at here later (per_word k) (length_unpack o k (min (per_word k) total) w ∙ omega arith)
+      | inl l ↦
+          let none : later ≡ [] =
+          ap (λ (m : ℕ). unpack_words o k m ws) (sub-eq-zero_of_le {n = total} {m = per_word k} (omega arith))
+          ∙ unpack_nothing o k ws in
+          ap (λ (x : List ℕ). drop (per_word k) (here ++ x)) none
+          ∙ drop_of_length-le (here ++ []) {i = per_word k}
+          (omega (arith, length-append here [], length_unpack o k (min (per_word k) total) w))
+          ∙ sym none
+    ]
   where
     here : List ℕ
     here = unpack o k (min (per_word k) total) w

@@ -14,10 +14,9 @@ use Rattle.manual.specs.declared.Field.TheVariants.{Ccr}
 use Rattle.manual.specs.Manual.{read_field, Setting}
 use Rattle.manual.proofs.ManualLaws.{read_all}
 use Rattle.words.specs.declared.clock.ClockConfigs.{ClockConfigs}
-use Rattle.words.specs.declared.clock.ClockResult.TheVariants.{ZeroClock}
 use borrow.Author.Tests.{ne_eqb}
 use lib.Dec.{eqb}
-use Rattle.words.specs.Clock.{half_divider, configs_of, ClockAnswer, clock_answer, clocked, clock_word, SckAtMost}
+use Rattle.words.specs.Clock.{half_divider, configs_of, ClockAnswer, zero_clock, clocked, clock_word, SckAtMost}
 
 -- the four fields of CCR in a word
 pub record ClockReads (w : ℕ) (c : ClockConfigs) : Type 0 where
@@ -53,8 +52,8 @@ clocked_fits source clock = by_tests (eqb source 0) (eqb clock 0)
   where
     answer : Bool → Bool → ClockAnswer
     answer a b =
-        cond a (clock_answer ZeroClock)
-        (cond b (clock_answer ZeroClock) (record { number = 0; configs = configs_of (half_divider source clock) }))
+        cond a (zero_clock)
+        (cond b (zero_clock) (record { number = 0; configs = configs_of (half_divider source clock) }))
 
     by_tests : (a b : Bool) → ((answer a b).configs.dbt < 256) × ((answer a b).configs.sckdiv < 256)
     by_tests true b = (omega arith, omega arith)

@@ -26,10 +26,11 @@ use Rattle.words.specs.declared.transaction.Direction.TheVariants.{Tx, Rx}
 use Rattle.words.specs.declared.transaction.LpspiError.{LpspiError}
 use Rattle.words.specs.declared.transaction.LpspiError.TheVariants.{FrameSize, Fifo}
 use Rattle.words.specs.declared.transaction.Transaction.{Transaction}
-use Rattle.words.specs.declared.transaction.TransactionResult.TheVariants.{Ok, Err}
+use Rattle.std.specs.Prelude.{Ok, Err}
 use Rattle.words.specs.Answer.{Answer, ok, refused, frame_size_number}
 use Rattle.words.specs.Command.{frame_accepted, framed, error_number, command_answer, flag_of, lsbf_of, pcs_of}
-use Rattle.words.specs.Command.{cpha_of, cpol_of, commanded, set_flag, bus_word, Settings, settings_word}
+use Rattle.words.specs.declared.transaction.Settings.{Settings}
+use Rattle.words.specs.Command.{cpha_of, cpol_of, commanded, set_flag, bus_word, settings_word}
 
 all_three : (a b c : Bool) → (a && b && c) ≡ true → (a ≡ true) × (b ≡ true)
 all_three true true c h = (refl, refl)

@@ -1,3 +1,4 @@
+pub mod Numbers
 pub mod WordLaws
 pub mod BufferLaws
 pub mod LaidLaws

@@ -1,10 +1,7 @@
 -- Document 01's result numbers, and its number and value for each answer of this layer. A value is 0 where it was refused.
 -- Assumes nothing.
-use Rattle.std.specs.Prelude.{ℕ}
-use Rattle.words.specs.declared.pack.PackResult.{PackResult}
-use Rattle.words.specs.declared.pack.PackResult.TheVariants.{Word, TooMany}
-use Rattle.words.specs.declared.unpack.UnpackResult.{UnpackResult}
-use Rattle.words.specs.declared.unpack.UnpackResult.TheVariants.{Done, TooMany as TooManyToUnpack}
+use Rattle.std.specs.Prelude.{ℕ, Result, Ok, Err}
+use Rattle.words.specs.declared.pack.TooManyElements.{TooManyElements}
 
 -- a result number, and the value that comes with 0
 pub record Answer : Type 0 where
@@ -33,10 +30,10 @@ zero_clock_number = 6
 abbrev pub too_many_number : ℕ
 too_many_number = 8
 
-abbrev pub pack_answer : PackResult → Answer
-pack_answer (Word w) = ok w
-pack_answer TooMany = refused too_many_number
+abbrev pub pack_answer : Result ℕ TooManyElements → Answer
+pack_answer (Ok w) = ok w
+pack_answer (Err e) = refused too_many_number
 
-abbrev pub unpack_number : UnpackResult → ℕ
-unpack_number Done = 0
-unpack_number TooManyToUnpack = too_many_number
+abbrev pub unpack_number : Result Unit TooManyElements → ℕ
+unpack_number (Ok u) = 0
+unpack_number (Err e) = too_many_number

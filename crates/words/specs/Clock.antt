@@ -1,11 +1,10 @@
 -- The clock of a transfer (document 01, Clocks).
 -- Assumes nothing.
-use Rattle.std.specs.Prelude.{ℕ, ◌+◌, ◌*◌, ◌-◌, ◌/◌, ◌≤◌, min, max, cond, eqb}
+use Rattle.std.specs.Prelude.{ℕ, ◌+◌, ◌*◌, ◌-◌, ◌/◌, ◌≤◌, min, max, cond, eqb, Result, Ok, Err}
 use Rattle.manual.specs.declared.Ccr.TheVariants.{SCKDIV, DBT, PCSSCK, SCKPCS}
 use Rattle.manual.specs.declared.Field.TheVariants.{Ccr}
 use Rattle.words.specs.declared.clock.ClockConfigs.{ClockConfigs}
-use Rattle.words.specs.declared.clock.ClockResult.{ClockResult}
-use Rattle.words.specs.declared.clock.ClockResult.TheVariants.{Ok, ZeroClock}
+use Rattle.words.specs.declared.clock.ZeroClock.{ZeroClock}
 use Rattle.words.specs.Answer.{zero_clock_number}
 use Rattle.manual.specs.Manual.{read_field, set_field}
 
@@ -22,12 +21,12 @@ pub record ClockAnswer : Type 0 where
   pub number : ℕ
   pub configs : ClockConfigs
 
-abbrev zero_clock : ClockAnswer
+abbrev pub zero_clock : ClockAnswer
 zero_clock = record { number = zero_clock_number; configs = record { sckpcs = 0; pcssck = 0; dbt = 0; sckdiv = 0 } }
 
-abbrev pub clock_answer : ClockResult → ClockAnswer
+abbrev pub clock_answer : Result ClockConfigs ZeroClock → ClockAnswer
 clock_answer (Ok c) = record { number = 0; configs = c }
-clock_answer ZeroClock = zero_clock
+clock_answer (Err e) = zero_clock
 
 -- 6 where source or wanted clock is 0
 abbrev pub clocked : ℕ → ℕ → ClockAnswer

@@ -1,6 +1,6 @@
 -- The command of a transfer (document 01, Commands): TCR's word.
 -- Assumes nothing.
-use Rattle.std.specs.Prelude.{ℕ, ◌+◌, ◌*◌, ◌-◌, ◌%◌, Bool, true, false, cond, not, ◌&&◌, leb, eqb}
+use Rattle.std.specs.Prelude.{ℕ, ◌+◌, ◌*◌, ◌-◌, ◌%◌, Bool, true, false, cond, not, ◌&&◌, leb, eqb, Result, Ok, Err}
 use Rattle.words.specs.declared.order.BitOrder.{BitOrder}
 use Rattle.words.specs.declared.order.BitOrder.TheVariants.{Msb, Lsb}
 use Rattle.words.specs.declared.mode.Polarity.{Polarity}
@@ -16,8 +16,8 @@ use Rattle.manual.specs.declared.Field.TheVariants.{Tcr}
 use Rattle.words.specs.declared.transaction.Direction.TheVariants.{Tx, Rx}
 use Rattle.words.specs.declared.transaction.LpspiError.{LpspiError}
 use Rattle.words.specs.declared.transaction.LpspiError.TheVariants.{FrameSize, Fifo}
-use Rattle.words.specs.declared.transaction.TransactionResult.{TransactionResult}
-use Rattle.words.specs.declared.transaction.TransactionResult.TheVariants.{Ok, Err}
+use Rattle.words.specs.declared.transaction.Settings.{Settings}
+use Rattle.words.specs.declared.transaction.Transaction.{Transaction}
 use Rattle.words.specs.Answer.{Answer, ok, refused, frame_size_number, receive_error_number, transmit_error_number}
 use Rattle.manual.specs.Manual.{set_field}
 
@@ -40,7 +40,7 @@ error_number (Fifo Rx) = receive_error_number
 error_number (Fifo Tx) = transmit_error_number
 
 -- a command's word with 0, or the error's number
-abbrev pub command_answer : TransactionResult → Answer
+abbrev pub command_answer : Result Transaction LpspiError → Answer
 command_answer (Ok t) = ok t.0
 command_answer (Err e) = refused (error_number e)
 
@@ -91,16 +91,6 @@ abbrev pub bus_word : BitOrder → Mode → Pcs → ℕ → ℕ
 bus_word o m p w = set_pcs p (set_mode m (set_order o w))
 
 -- all that a command says but its frame size
-pub record Settings : Type 0 where
-  pub byte_swap : Bool
-  pub order : BitOrder
-  pub receive_mask : Bool
-  pub transmit_mask : Bool
-  pub continuous : Bool
-  pub continuing : Bool
-  pub mode : Mode
-  pub pcs : Pcs
-
 abbrev pub settings_word : Settings → ℕ → ℕ
 settings_word s w =
     set_flag CONTC s.continuing

@@ -12,11 +12,9 @@ pub struct ClockConfigs {
     pub sckdiv: u8,
 }
 
+// The source clock or the wanted clock is 0.
 #[derive(Clone, Copy)]
-pub enum ClockResult {
-    Ok(ClockConfigs),
-    ZeroClock,
-}
+pub struct ZeroClock;
 
 impl ClockConfigs {
     pub const MIN_HALF_DIV: u64 = 3;
@@ -24,19 +22,16 @@ impl ClockConfigs {
     pub const MAX_HALF_DIV: u64 = 128;
 
     // The clock that the Rust computes in `compute_spi_clock`.
-    pub fn from_hz(source_clock_hz: u32, spi_clock_hz: u32) -> ClockResult
+    pub fn from_hz(source_clock_hz: u32, spi_clock_hz: u32) -> Result<ClockConfigs, ZeroClock>
         ensures { clock_answer result ≡ clocked source_clock_hz spi_clock_hz }
     {
-        if source_clock_hz == 0 {
-            return ClockResult::ZeroClock;
-        }
-        if spi_clock_hz == 0 {
-            return ClockResult::ZeroClock;
+        if source_clock_hz == 0 || spi_clock_hz == 0 {
+            return Err(ZeroClock);
         }
         let half_div = half_divider(source_clock_hz, spi_clock_hz);
         let half = (half_div - 1) as u8;
         let sckdiv = (2 * (half_div - 1)) as u8;
-        ClockResult::Ok(ClockConfigs {
+        Ok(ClockConfigs {
             sckpcs: half,
             pcssck: half,
             dbt: half,
@@ -60,12 +55,6 @@ fn half_divider(source: u32, clock: u32) -> u64
     requires { (0 < source) × (0 < clock) }
     ensures { (result ≡ half_divider source clock) × (3 ≤ result) × (result ≤ 128) }
 {
-    let up = 1 + (source - 1) as u64 / (2 * (clock as u64));
-    if up < ClockConfigs::MIN_HALF_DIV {
-        return ClockConfigs::MIN_HALF_DIV;
-    }
-    if ClockConfigs::MAX_HALF_DIV < up {
-        return ClockConfigs::MAX_HALF_DIV;
-    }
-    up
+    let up = 1 + (source as u64 - 1) / (2 * clock as u64);
+    up.clamp(ClockConfigs::MIN_HALF_DIV, ClockConfigs::MAX_HALF_DIV)
 }

@@ -11,3 +11,4 @@ mod place;
 pub mod transaction;
 pub mod unpack;
 pub mod width;
+pub mod word;

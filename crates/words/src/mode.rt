@@ -1,5 +1,5 @@
 // The SPI mode and the chip select of a command.
-ghost use Rattle.std.specs.Prelude.{◌≡◌, ◌≤◌};
+ghost use Rattle.std.specs.Prelude.{◌≡◌, ◌≤◌, map, [], ◌∷◌};
 ghost use Rattle.words.specs.Command.{cpol_of, cpha_of, mode_number, pcs_of};
 
 #[derive(Clone, Copy)]
@@ -13,10 +13,7 @@ impl Polarity {
     pub fn cpol(self) -> u32
         ensures { (result ≡ cpol_of self) × (result ≤ 1) }
     {
-        match self {
-            Polarity::IdleLow => 0,
-            Polarity::IdleHigh => 1,
-        }
+        self as u32
     }
 }
 
@@ -31,10 +28,7 @@ impl Phase {
     pub fn cpha(self) -> u32
         ensures { (result ≡ cpha_of self) × (result ≤ 1) }
     {
-        match self {
-            Phase::CaptureOnFirstTransition => 0,
-            Phase::CaptureOnSecondTransition => 1,
-        }
+        self as u32
     }
 }
 
@@ -65,28 +59,10 @@ pub const MODE_3: Mode = Mode {
 };
 
 // The number of each mode is its CPOL above its CPHA.
-fn mode_0() -> Mode
-    ensures { mode_number result ≡ 0 }
+fn modes() -> [Mode; 4]
+    ensures { map mode_number result ≡ 0 ∷ 1 ∷ 2 ∷ 3 ∷ [] }
 {
-    MODE_0
-}
-
-fn mode_1() -> Mode
-    ensures { mode_number result ≡ 1 }
-{
-    MODE_1
-}
-
-fn mode_2() -> Mode
-    ensures { mode_number result ≡ 2 }
-{
-    MODE_2
-}
-
-fn mode_3() -> Mode
-    ensures { mode_number result ≡ 3 }
-{
-    MODE_3
+    [MODE_0, MODE_1, MODE_2, MODE_3]
 }
 
 // Peripheral chip select.
@@ -103,11 +79,6 @@ impl Pcs {
     pub fn number(self) -> u32
         ensures { (result ≡ pcs_of self) × (result ≤ 3) }
     {
-        match self {
-            Pcs::Pcs0 => 0,
-            Pcs::Pcs1 => 1,
-            Pcs::Pcs2 => 2,
-            Pcs::Pcs3 => 3,
-        }
+        self as u32
     }
 }

@@ -2,7 +2,7 @@
 ghost use Rattle.std.specs.Prelude.{◌≡◌, ◌≤◌};
 ghost use Rattle.words.specs.Command.{lsbf_of};
 
-#[derive(Clone, Copy)]
+#[derive(Clone, Copy, PartialEq, Eq)]
 pub enum BitOrder {
     Msb,
     Lsb,
@@ -13,9 +13,6 @@ impl BitOrder {
     pub fn lsbf(self) -> u32
         ensures { (result ≡ lsbf_of self) × (result ≤ 1) }
     {
-        match self {
-            BitOrder::Msb => 0,
-            BitOrder::Lsb => 1,
-        }
+        self as u32
     }
 }

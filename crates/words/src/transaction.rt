@@ -1,6 +1,6 @@
 // The command of a transfer, as the register TCR has it.
 ghost use Rattle.std.specs.Prelude.{◌≡◌, ◌*◌, length};
-ghost use Rattle.words.specs.Command.{flag_of, set_flag, set_order, set_mode, set_pcs, settings_word};
+ghost use Rattle.words.specs.Command.{set_flag, set_order, set_mode, set_pcs, settings_word};
 ghost use Rattle.words.specs.Command.{frame_accepted, command_answer, framed};
 ghost use Rattle.words.specs.Width.{width_bits};
 ghost use Rattle.words.specs.declared.width.Width.TheVariants.{U8};
@@ -9,10 +9,11 @@ ghost use Rattle.manual.specs.declared.Tcr.TheVariants.{BYSW, RXMSK, TXMSK, CONT
 use super::mode::{Mode, Pcs};
 use super::order::BitOrder;
 use super::width::Width;
+use super::word::Word;
 use manual::{Field, Tcr};
 
 // Data direction.
-#[derive(Clone, Copy)]
+#[derive(Clone, Copy, PartialEq, Eq)]
 pub enum Direction {
     // Leaving the peripheral.
     Tx,
@@ -29,19 +30,19 @@ pub enum LpspiError {
 }
 
 #[derive(Clone, Copy)]
-pub enum TransactionResult {
-    Ok(Transaction),
-    Err(LpspiError),
-}
-
-#[derive(Clone, Copy)]
 pub struct Transaction(u32);
 
-// The field of a flag.
-pub fn flag(on: bool) -> u32
-    ensures { result ≡ flag_of on }
-{
-    if on { 1 } else { 0 }
+// All that a command says but its frame size.
+#[derive(Clone, Copy)]
+pub struct Settings {
+    pub byte_swap: bool,
+    pub order: BitOrder,
+    pub receive_mask: bool,
+    pub transmit_mask: bool,
+    pub continuous: bool,
+    pub continuing: bool,
+    pub mode: Mode,
+    pub pcs: Pcs,
 }
 
 impl Transaction {
@@ -57,7 +58,7 @@ impl Transaction {
     // The FIFO words of the longest frame.
     pub const MAX_WORDS: usize = 128;
 
-    // Both limits are those of the longest frame.
+    // Both limits are those of the longest frame. (Two functions: the documents name each.)
     fn max_elements() -> usize
         ensures { width_bits U8 * result ≡ 4096 }
     {
@@ -73,52 +74,43 @@ impl Transaction {
     fn frame_size_valid(frame_size: u16) -> bool
         ensures { result ≡ frame_accepted frame_size }
     {
-        if frame_size < Self::MIN_FRAME_SIZE {
-            return false;
-        }
-        if Self::MAX_FRAME_SIZE < frame_size {
-            return false;
-        }
-        frame_size % Self::WORD_SIZE != 1
+        let bounded = Self::MIN_FRAME_SIZE <= frame_size && frame_size <= Self::MAX_FRAME_SIZE;
+        bounded && frame_size % Self::WORD_SIZE != 1
     }
 
     // The command of a frame of that many bits.
-    pub fn new(frame_size: u16) -> TransactionResult
+    pub fn new(frame_size: u16) -> Result<Self, LpspiError>
         ensures { command_answer result ≡ framed frame_size }
     {
         if Self::frame_size_valid(frame_size) {
-            TransactionResult::Ok(Self(frame_size as u32 - 1))
+            Ok(Self(frame_size as u32 - 1))
         } else {
-            TransactionResult::Err(LpspiError::FrameSize)
+            Err(LpspiError::FrameSize)
         }
     }
 
     // The command of a frame of `len` elements.
-    pub fn new_words(width: Width, len: usize) -> TransactionResult
+    pub fn new_elements(width: Width, len: usize) -> Result<Self, LpspiError>
         ensures { command_answer result ≡ framed (width_bits width * len) }
     {
         if Self::MAX_ELEMENTS < len {
-            return TransactionResult::Err(LpspiError::FrameSize);
+            return Err(LpspiError::FrameSize);
         }
         Self::new(width.bits() * (len as u16))
     }
 
-    pub fn new_u8s(data: &[u8]) -> TransactionResult
-        ensures { command_answer result ≡ framed (8 * length «data».now) }
+    // The command of a frame of those elements.
+    pub fn new_words<T: Word>(data: &[T]) -> Result<Self, LpspiError>
+        ensures { command_answer result ≡ framed (width_bits T.width * length «data».now) }
     {
-        Self::new_words(Width::U8, data.len())
+        Self::new_elements(T::width(), data.len())
     }
 
-    pub fn new_u16s(data: &[u16]) -> TransactionResult
-        ensures { command_answer result ≡ framed (16 * length «data».now) }
-    {
-        Self::new_words(Width::U16, data.len())
-    }
-
-    pub fn new_u32s(data: &[u32]) -> TransactionResult
+    // By the Rust's name.
+    pub fn new_u32s(data: &[u32]) -> Result<Self, LpspiError>
         ensures { command_answer result ≡ framed (32 * length «data».now) }
     {
-        Self::new_words(Width::U32, data.len())
+        Self::new_words(data)
     }
 
     // The word of the register TCR.
@@ -127,6 +119,8 @@ impl Transaction {
     {
         self.0
     }
+
+    // The eight settings, by the Rust's names: each is its own function there, and 01 names the setters.
 
     // Swap the bytes of a word.
     pub fn with_byte_swap(self, swap: bool) -> Self
@@ -187,7 +181,7 @@ impl Transaction {
     fn with_flag(self, field: Tcr, on: bool) -> Self
         ensures { result.0 ≡ set_flag field on self.0 }
     {
-        Self(Field::Tcr(field).set(flag(on), self.0))
+        Self(Field::Tcr(field).set(u32::from(on), self.0))
     }
 }
 
@@ -242,37 +236,18 @@ impl Transaction {
     }
 
     // All settings but the frame size.
-    pub fn with_settings(
-        self,
-        byte_swap: bool,
-        bit_order: BitOrder,
-        receive_mask: bool,
-        transmit_mask: bool,
-        continuous: bool,
-        continuing: bool,
-        mode: Mode,
-        pcs: Pcs,
-    ) -> Self
-        ensures { result.0 ≡ settings_word (record {
-          byte_swap = byte_swap;
-          order = bit_order;
-          receive_mask = receive_mask;
-          transmit_mask = transmit_mask;
-          continuous = continuous;
-          continuing = continuing;
-          mode = mode;
-          pcs = pcs;
-        }) self.0 }
+    pub fn with_settings(self, settings: Settings) -> Self
+        ensures { result.0 ≡ settings_word settings self.0 }
     {
         let mut command = self;
-        command.set_bit_order(bit_order);
-        command.set_mode(mode);
-        command.set_pcs(pcs);
-        command.set_byte_swap(byte_swap);
-        command.set_receive_data_mask(receive_mask);
-        command.set_transmit_data_mask(transmit_mask);
-        command.set_continuous(continuous);
-        command.set_continuing(continuing);
+        command.set_bit_order(settings.order);
+        command.set_mode(settings.mode);
+        command.set_pcs(settings.pcs);
+        command.set_byte_swap(settings.byte_swap);
+        command.set_receive_data_mask(settings.receive_mask);
+        command.set_transmit_data_mask(settings.transmit_mask);
+        command.set_continuous(settings.continuous);
+        command.set_continuing(settings.continuing);
         command
     }
 }

@@ -1,10 +1,10 @@
 // The three widths of an element: what the Rust has as the trait `Word`.
-ghost use Rattle.std.specs.Prelude.{◌≡◌, ◌≤◌, min as least};
+ghost use Rattle.std.specs.Prelude.{◌≡◌, ◌≤◌};
 ghost use Rattle.words.specs.Width.{width_bits};
 ghost use Rattle.words.specs.Word.{per_word};
 ghost use Rattle.words.specs.Buffer.{dummy, word_count};
 
-#[derive(Clone, Copy)]
+#[derive(Clone, Copy, PartialEq, Eq)]
 pub enum Width {
     U8,
     U16,
@@ -55,11 +55,4 @@ impl Width {
             Width::U32 => len,
         }
     }
-}
-
-// The smaller of two counts.
-pub(crate) fn min(a: usize, b: usize) -> usize
-    ensures { result ≡ least a b }
-{
-    if a < b { a } else { b }
 }

@@ -18,7 +18,7 @@ pub const OUTSIDE: &[(&str, &str)] = &[
     ),
     (
         "the kit: its name, programs and commands, words of its verdict and of its proofs, C functions of its std",
-        "LLVM __xpg_strerror_r axioms dac8208d650f15bf libraries-built nat rattle-kit-13f rattle_errno returns-in-BYSW \
+        "LLVM __xpg_strerror_r axioms dac8208d650f15bf libraries-built nat rattle-kit-13f rattle_errno returns-in-Tcr-BYSW \
          statements tidy trusted",
     ),
     (
@@ -37,7 +37,7 @@ const BESIDE: &str = "../shared";
 const BUILT: &str = "/out/";
 
 /// These pages are history, and name what is gone.
-const HISTORY: [&str; 2] = ["docs/CHANGES.md", "docs/PORT.md"];
+const HISTORY: [&str; 3] = ["docs/CHANGES.md", "docs/DESIGN-PASS.md", "docs/PORT.md"];
 
 /// These files name what does not exist.
 const NO_SOURCE: [&str; 4] = [

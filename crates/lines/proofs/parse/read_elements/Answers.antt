@@ -1,120 +1,57 @@
--- `read_elements` meets its contract. The loop's invariant: those that were read, with the fields that are left, are the line's.
+-- `read_elements` meets its contract.
 -- Assumes nothing.
-use Prim.Native.Nat.{ℕ, ◌+◌, ◌-◌, ◌<◌}
-use mathlib.Core.List.{[], ◌∷◌, ◌++◌}
-use mathlib.Core.Option.{some}
-use mathlib.Core.Path.{◌≡◌, refl, sym, ap, ap₂, ◌∙◌}
-use native.Mathlib.Numerals.{add-one}
-use native.Mathlib.Omega.{arith}
-use borrow.Author.Tests.{lt-ltb, le-ltb}
-use lib.ListN.{length, take, drop, set, length-set, length-append}
-use lib.Seq.{take-suc-set, length-take-le}
-use Rattle.lines.specs.Text.{space, split}
-use Rattle.lines.specs.Parse.{number_answer}
-use Rattle.lines.proofs.TextLaws.{nonzero, before_end}
-use Rattle.lines.proofs.PartLaws.{later, fields}
-use Rattle.lines.proofs.ElementLaws.{togo, togo_start, togo_bad, togo_more, togo_over, togo_end, empty_line}
+use Rattle.std.proofs.Common.{◌<◌, ◌≡◌, [], ◌∷◌, ◌++◌, Some, take, arith, length-set, sym, ap, ◌∙◌}
+use Rattle.std.proofs.Math.Nat.{mod-eq_of_lt}
+use Rattle.words.specs.Width.{width_bits}
+use Rattle.lines.specs.Fields.{fields}
+use Rattle.lines.specs.Grammar.{element}
+use Rattle.lines.proofs.ElementLaws.{togo, togo_none, togo_start, togo_more, togo_full, element_below, stored, length_before}
+use Rattle.lines.proofs.parse.read_elements.Goals.{then-is_empty, else-is_empty}
 use Rattle.lines.proofs.parse.read_elements.Goals as goal
 
-pub returns-then-line-eq0 : goal.returns-then-line-eq0
-returns-then-line-eq0 c = (
-  omega arith,
-  empty_line c.args.k c.args.most
-      c.args.line.now c.if-line-eq0.true,
-)
-
-pub loop-x-init : goal.loop-x-init
-loop-x-init c =
-    let a = c.args in
-    (omega arith, omega arith, refl, togo_start a.k a.most a.line.now (nonzero (length a.line.now) c.if-line-eq0.false))
-
-pub returns-in-Bad : goal.returns-in-Bad
-returns-in-Bad c =
-    let a = c.args in
-    let l = c.loop-x in
-    let u = c.up_to-end in
-    let f = take (u.result - l.from) (drop l.from a.line.now) in
-    let fs = later space a.line.now u.result in
-    let e = sym c.read_element.ensures ∙ ap number_answer c.in-Bad.is in
-    let parts = fields space a.line.now l.from u.result l.invariant.0 u.ensures.0 u.ensures.1 in
-    let here = sym l.invariant.3 ∙ ap (togo a.k a.most (take l.n l.out)) parts in
-    here ∙ togo_bad a.k a.most (take l.n l.out) f fs e
-
-pub returns-then-most-n : goal.returns-then-most-n
-returns-then-most-n c =
-    let a = c.args in
-    let l = c.loop-x in
-    let u = c.up_to-end in
-    let f = take (u.result - l.from) (drop l.from a.line.now) in
-    let fs = later space a.line.now u.result in
-    let e = sym c.read_element.ensures ∙ ap number_answer c.in-Value.is in
-    let parts = fields space a.line.now l.from u.result l.invariant.0 u.ensures.0 u.ensures.1 in
-    let here = sym l.invariant.3 ∙ ap (togo a.k a.most (take l.n l.out)) parts in
-    let x = c.in-Value.x in
-    let many : length (take l.n l.out) ≡ l.n = length-take-le l.n l.out (omega (arith, l.invariant.1, l.invariant.2, c.requires.1)) in
-    let longer : length (take l.n l.out ++ (x ∷ [])) ≡ l.n + 1 =
-    length-append (take l.n l.out) (x ∷ []) ∙ ap (λ (m : ℕ). m + 1) many in
-    let read = here ∙ togo_more a.k a.most x (take l.n l.out) f fs e in
-    read ∙ togo_over a.k a.most (take l.n l.out ++ (x ∷ [])) fs (omega (arith, longer, c.if-most-n.true))
-
-pub returns-then-end-line : goal.returns-then-end-line
-returns-then-end-line c =
-    let a = c.args in
-    let l = c.loop-x in
-    let u = c.up_to-end in
-    let f = take (u.result - l.from) (drop l.from a.line.now) in
-    let fs = later space a.line.now u.result in
-    let e = sym c.read_element.ensures ∙ ap number_answer c.in-Value.is in
-    let parts = fields space a.line.now l.from u.result l.invariant.0 u.ensures.0 u.ensures.1 in
-    let here = sym l.invariant.3 ∙ ap (togo a.k a.most (take l.n l.out)) parts in
-    let x = c.in-Value.x in
-    let many : length (take l.n l.out) ≡ l.n = length-take-le l.n l.out (omega (arith, l.invariant.1, l.invariant.2, c.requires.1)) in
-    let longer : length (take l.n l.out ++ (x ∷ [])) ≡ l.n + 1 =
-    length-append (take l.n l.out) (x ∷ []) ∙ ap (λ (m : ℕ). m + 1) many in
-    let read = here ∙ togo_more a.k a.most x (take l.n l.out) f fs e in
-    let room : l.n < length l.out = omega (arith, l.invariant.2, c.requires.1, c.if-most-n.false) in
-    let stored : take (l.n + 1) (set l.out l.n x) ≡ take l.n l.out ++ (x ∷ []) =
-    ap (λ (m : ℕ). take m (set l.out l.n x)) (add-one l.n) ∙ take-suc-set l.out l.n x room in
-    let same = length-set l.out l.n x in
-    let last : fs ≡ [] = rw (le-ltb u.result (length a.line.now) (omega (arith, c.if-end-line.true))) in (
-      omega (arith, room, same),
-      read
-          ∙ ap (togo a.k a.most (take l.n l.out ++ (x ∷ []))) last
-          ∙ togo_end a.k a.most (take l.n l.out ++ (x ∷ [])) (omega (arith, longer, c.if-most-n.false))
-          ∙ ap some (sym stored),
+pub loop-rest-init : goal.loop-rest-init
+loop-rest-init g c =
+    let k = width_bits g.T.Word.width in
+    let line = c.args.line.now in
+    let none : g.T.Word.numbers [] ≡ [] = g.T.Word.laws.each [] in (
+      omega arith,
+      c.told-out,
+      rw none
+          (elim c.if-is_empty.branch [
+            | then-is_empty w ↦ rw w.rest-is (togo_none k g.row.N line w.if-is_empty.ensures)
+            | else-is_empty w ↦ rw w.rest-is (togo_start k g.row.N line w.if-is_empty.ensures)
+          ]),
     )
 
-pub loop-x-smaller : goal.loop-x-smaller
-loop-x-smaller c =
-    let a = c.args in
-    let l = c.loop-x in
-    let u = c.up_to-end in
-    let inside : u.result < length a.line.now = before_end u.result (length a.line.now) u.ensures.1 c.if-end-line.false in
-    omega (arith, inside, u.ensures.0)
+pub returns-then-n-clause-value : goal.returns-then-n-clause-value
+returns-then-n-clause-value g c =
+    let l = c.loop-rest in
+    let k = width_bits g.T.Word.width in
+    let parts : fields l.rest ≡ c.first_field.result.0.now ∷ fields c.first_field.result.1 =
+    ap fields c.in-Some.is ∙ c.first_field.ensures in
+    let e : element k c.first_field.result.0.now ≡ Some c.in_ok-x.x =
+    ap (λ w. element (width_bits w) c.first_field.result.0.now) (sym c.width.ensures) ∙ sym c.read_element.ensures ∙ c.in_ok-x.was in
+    let before = length_before g.T.Word.laws l.out l.n (omega arith) in
+    sym (togo_full k g.row.N c.in_ok-x.x _ _ _ e (omega (arith, before, c.if-n.true)))
+    ∙ ap (togo k g.row.N (g.T.Word.numbers (take l.n l.out))) (sym parts)
+    ∙ l.invariant.2
 
-pub loop-x-preserved : goal.loop-x-preserved
-loop-x-preserved c =
-    let a = c.args in
-    let l = c.loop-x in
-    let u = c.up_to-end in
-    let f = take (u.result - l.from) (drop l.from a.line.now) in
-    let fs = later space a.line.now u.result in
-    let e = sym c.read_element.ensures ∙ ap number_answer c.in-Value.is in
-    let parts = fields space a.line.now l.from u.result l.invariant.0 u.ensures.0 u.ensures.1 in
-    let here = sym l.invariant.3 ∙ ap (togo a.k a.most (take l.n l.out)) parts in
-    let x = c.in-Value.x in
-    let many : length (take l.n l.out) ≡ l.n = length-take-le l.n l.out (omega (arith, l.invariant.1, l.invariant.2, c.requires.1)) in
-    let longer : length (take l.n l.out ++ (x ∷ [])) ≡ l.n + 1 =
-    length-append (take l.n l.out) (x ∷ []) ∙ ap (λ (m : ℕ). m + 1) many in
-    let read = here ∙ togo_more a.k a.most x (take l.n l.out) f fs e in
-    let room : l.n < length l.out = omega (arith, l.invariant.2, c.requires.1, c.if-most-n.false) in
-    let stored : take (l.n + 1) (set l.out l.n x) ≡ take l.n l.out ++ (x ∷ []) =
-    ap (λ (m : ℕ). take m (set l.out l.n x)) (add-one l.n) ∙ take-suc-set l.out l.n x room in
-    let same = length-set l.out l.n x in
-    let inside : u.result < length a.line.now = before_end u.result (length a.line.now) u.ensures.1 c.if-end-line.false in
-    let next : fs ≡ split space (drop (u.result + 1) a.line.now) = rw (lt-ltb u.result (length a.line.now) inside) in (
-      omega (arith, inside),
-      omega (arith, c.if-most-n.false),
-      same ∙ l.invariant.2,
-      ap₂ (togo a.k a.most) stored (sym next) ∙ sym read,
+pub loop-rest-preserved : goal.loop-rest-preserved
+loop-rest-preserved g c =
+    let l = c.loop-rest in
+    let k = width_bits g.T.Word.width in
+    let parts : fields l.rest ≡ c.first_field.result.0.now ∷ fields c.first_field.result.1 =
+    ap fields c.in-Some.is ∙ c.first_field.ensures in
+    let e : element k c.first_field.result.0.now ≡ Some c.in_ok-x.x =
+    ap (λ w. element (width_bits w) c.first_field.result.0.now) (sym c.width.ensures) ∙ sym c.read_element.ensures ∙ c.in_ok-x.was in
+    let whole : g.T.Word.number c.from_word.result ≡ c.in_ok-x.x =
+    c.from_word.ensures ∙ mod-eq_of_lt (element_below k _ c.in_ok-x.x e) in
+    let room : l.n < g.row.N = omega (arith, l.invariant.0, c.if-n.false) in (
+      omega (arith, room),
+      length-set l.out l.n c.from_word.result ∙ l.invariant.1,
+      ap (λ xs. togo k g.row.N xs (fields c.first_field.result.1))
+          (stored g.T.Word.laws l.out l.n c.from_word.result (omega (arith, room, l.invariant.1)) ∙ ap (λ x. g.T.Word.numbers (take l.n l.out) ++ (x ∷ [])) whole)
+          ∙ sym (togo_more k g.row.N c.in_ok-x.x _ _ _ e)
+          ∙ ap (togo k g.row.N (g.T.Word.numbers (take l.n l.out))) (sym parts)
+          ∙ l.invariant.2,
     )

@@ -1,17 +1,18 @@
--- `read_elements` meets its contract. The loop's invariant: those that were read, with the fields that are left, are the line's.
+-- Those that were read, with the fields that are left, are the line's.
 -- Assumes nothing.
-use Prim.Native.Nat.{◌-◌, ◌≤◌}
-use mathlib.Core.Path.{◌≡◌}
-use lib.ListN.{length, take, drop}
-use Rattle.lines.specs.Text.{space, split}
+use Rattle.std.proofs.Common.{◌≤◌, ◌≡◌, length, take}
+use Rattle.words.specs.Width.{width_bits}
+use Rattle.lines.specs.Fields.{fields}
 use Rattle.lines.specs.Grammar.{line_elements}
 use Rattle.lines.proofs.ElementLaws.{togo}
 use Rattle.lines.proofs.parse.read_elements.Given as goal
 
-abbrev pub invariant-loop-x : goal.invariant-loop-x
-invariant-loop-x l =
-    (l.from ≤ length l.line) × (l.n ≤ l.most) × (length l.out ≡ length l.initial.out)
-    × (togo l.k l.most (take l.n l.out) (split space (drop l.from l.line)) ≡ line_elements l.k l.most l.line)
+abbrev pub invariant-loop-rest : goal.invariant-loop-rest
+invariant-loop-rest g l =
+    (l.n ≤ g.row.N)
+    × (length l.out ≡ g.row.N)
+    × (togo (width_bits g.T.Word.width) g.row.N (g.T.Word.numbers (take l.n l.out)) (fields l.rest)
+    ≡ line_elements (width_bits g.T.Word.width) g.row.N l.line)
 
-abbrev pub decreases-loop-x : goal.decreases-loop-x
-decreases-loop-x l = length l.line - l.from
+abbrev pub decreases-loop-rest : goal.decreases-loop-rest
+decreases-loop-rest g l = length (fields l.rest)

@@ -1,7 +1,0 @@
--- `clear_status` meets its contract: the run of its call.
--- Assumes nothing.
-use Rattle.calls.proofs.EntryLaws.{ran_call_lem}
-use Rattle.calls.proofs.status.clear_status.Goals as goal
-
-pub returns : goal.returns
-returns c = ran_call_lem c.run_call.ensures c.result.ensures

@@ -1,9 +1,0 @@
--- `failed` meets its contract: each branch is the definition's.
--- Assumes nothing.
-use Rattle.machine.proofs.poll.failed.Goals as goal
-
-pub returns-in-Tx : goal.returns-in-Tx
-returns-in-Tx c = simp (c.in-Tx.is, ← c.read.ensures)
-
-pub returns-in-Rx : goal.returns-in-Rx
-returns-in-Rx c = simp (c.in-Rx.is, ← c.read-in-Rx.ensures)

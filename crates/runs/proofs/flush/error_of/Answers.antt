@@ -1,9 +1,0 @@
--- `error_of` meets its contract: each branch is the definition's.
--- Assumes nothing.
-use Rattle.runs.proofs.flush.error_of.Goals as goal
-
-pub returns-then-failed : goal.returns-then-failed
-returns-then-failed c = simp (← c.failed.ensures, c.if-failed.true)
-
-pub returns : goal.returns
-returns c = simp (← c.failed.ensures, c.if-failed.false)

@@ -1,9 +1,0 @@
--- `spread_u16` meets its contract: the order's function.
--- Assumes nothing.
-use Rattle.words.proofs.unpack.spread_u16.Goals as goal
-
-pub returns-in-Msb : goal.returns-in-Msb
-returns-in-Msb c = rw c.in-Msb.is c.spread_msb_u16.ensures
-
-pub returns-in-Lsb : goal.returns-in-Lsb
-returns-in-Lsb c = rw c.in-Lsb.is c.spread_lsb_u16.ensures
