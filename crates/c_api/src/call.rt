@@ -96,6 +96,7 @@ fn disabled(
     }
 }
 
+// The C interface: a host's word.
 fn fifo_number(f: FifoStatus) -> u64
     ensures { result ≡ fifo_number f }
 {
@@ -103,6 +104,7 @@ fn fifo_number(f: FifoStatus) -> u64
         + f.rxcount as u64
 }
 
+// The C interface: a host's word.
 fn word_number(word: Option<u32>) -> u64
     ensures { result ≡ word_number word }
 {

@@ -1,4 +1,5 @@
 // The driver value that a run leaves, in the host's word. Bits 31..21 are the host's.
+// The C interface: a host's word, and places that it lends.
 ghost use Rattle.std.specs.Prelude.{◌≡◌, []};
 ghost use Rattle.runs.specs.Run.{left};
 ghost use Rattle.c_api.specs.HostRun.{driver_left, host_left, of_call};

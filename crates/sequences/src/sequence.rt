@@ -166,7 +166,7 @@ fn fifo_reset(direction: Direction) -> Field
     }
 }
 
-// One bit of a word. `set_bits` of manual, which does the same, is not public: it has a `requires`, and no public function has one.
+// One bit of a word. Manual's `Bits::set` does the same, but is not public: `Bits::new` has a `requires`, and no public function has one.
 fn set_bit(position: u32, bit: u32, word: u32) -> u32
     requires { position < 4 }
     ensures { result ≡ set_bits position 1 bit word }

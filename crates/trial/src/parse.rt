@@ -116,7 +116,7 @@ fn events<'a>(line: &[u8], room: &'a mut [u8; MAX_EVENTS]) -> Option<&'a [u8]> {
     room.get(..line.iter().filter(is_letter).count())
 }
 
-// The byte of an event, as the trials for hosts take it too.
+// The byte of an event: the C interface, by which hosts lend events.
 fn event(letter: u8) -> Option<u8> {
     match letter {
         b'g' => Some(0),
