@@ -11,7 +11,8 @@
 //! - each link, with its anchor.
 //!
 //! Blocks of code are left out; other tests run what BUSLOG, BUS and CALLS show. docs/CHANGES.md,
-//! docs/DESIGN-PASS.md and docs/PORT.md are history and name what is gone: of them only the links are looked at.
+//! docs/DESIGN-PASS.md, docs/LOOK-BACK.md and docs/PORT.md are history and name what is gone: of them only the
+//! links are looked at.
 
 #[path = "common/cited.rs"]
 mod cited;

@@ -37,7 +37,12 @@ const BESIDE: &str = "../shared";
 const BUILT: &str = "/out/";
 
 /// These pages are history, and name what is gone.
-const HISTORY: [&str; 3] = ["docs/CHANGES.md", "docs/DESIGN-PASS.md", "docs/PORT.md"];
+const HISTORY: [&str; 4] = [
+    "docs/CHANGES.md",
+    "docs/DESIGN-PASS.md",
+    "docs/LOOK-BACK.md",
+    "docs/PORT.md",
+];
 
 /// These files name what does not exist.
 const NO_SOURCE: [&str; 4] = [
