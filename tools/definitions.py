@@ -3,6 +3,7 @@
 # reading order (the libraries of crates.txt, lowest first; in each the order of specs/Lib.antt).
 #   tools/definitions.py              a line a file: its lines, how many definitions public contracts reach, and which only private ones do
 #   tools/definitions.py bus c_api    only what the public functions of these crates reach
+# Last come the values that public types show in contracts, which stand in src/: of a type its `impl Model`, of a trait its ghost members.
 # It goes by names and `use` lines. It fails where a public function has no `ensures` or has a `requires`.
 import os
 import re
@@ -80,6 +81,17 @@ def traits(path):
     return [set(WORD.findall(m.group())) for m in re.finditer(r'(?ms)^pub trait .*?^}', text)]
 
 
+def values(path):
+    # the public types and traits whose value in contracts stands in this file, and how many lines say it
+    text = '\n'.join(code(path))
+    for m in re.finditer(r'(?ms)^impl Model for (\w+)(?:<[^>]*>)? \{.*?^}', text):
+        if re.search(rf'(?m)^pub struct {m.group(1)}\b', text):
+            yield m.group(1), m.group().count('\n') + 1
+    for m in re.finditer(r'(?ms)^pub trait (\w+)\b.*?^}', text):
+        if re.search(r'(?m)^ +ghost ', m.group()):
+            yield m.group(1), m.group().count('\n') + 1
+
+
 def sources(crate):
     return [os.path.join(d, f) for d, _, fs in os.walk(f'crates/{crate}/src') for f in sorted(fs)]
 
@@ -131,6 +143,10 @@ def main():
             note = '' if not rest or sys.argv[1:] else '  not: ' + ', '.join(rest)
             print(f'{size:5}  {len(here):3}/{len(own):<3}  {path}{note}')
     print(f'{total:5}  lines in all')
+    for crate in wanted:
+        for path in sources(crate):
+            for name, size in values(path):
+                print(f'{size:5}  {path}: what {name} is in a contract')
     if not sys.argv[1:]:
         print('only private contracts, or laws, cite: ' + ', '.join(p for p, (own, _) in specs.items() if own and not any((p, n) in believed for n in own)))
     for fault in faults:

@@ -1,3 +1,4 @@
+mod FifoLaws
 pub mod QueuedLaws
 mod PairLaws
 mod RunLaws

@@ -32,7 +32,7 @@ use Rattle.bus.specs.declared.trial.Unfit.{Unfit}
 use Rattle.bus.specs.Begin.{unpaired_by}
 use Rattle.bus.specs.Held.{end_of, fresh_of, entrant_job, pair_of, JobFits, Linked, Prepared, Ran}
 use Rattle.bus.specs.View.{state_of}
-use Rattle.bus.specs.Trial.{start_of, unpaired, number_of, TrialLeft, trial_left, trial_of, Tried}
+use Rattle.bus.specs.Trial.{start_of, unpaired, trial_number, TrialLeft, trial_left, trial_of, Tried}
 use Rattle.bus.proofs.BeginLaws.{begun_is, few_words}
 
 -- WHAT A BOARD GOES BY that enters with these buffers: its words where they are sent
@@ -166,7 +166,7 @@ module _ (k : ℕ) (g a : Entrant) (gr gw ar aw events : List ℕ) (r : Outcome)
   abbrev ends : Bool → Pair
   ends b = cond b (fresh_pair ours theirs) (pair_after ours theirs (events_of events))
 
-  number_is : {b : Bool} → unpaired k ours theirs ≡ b → number_of r.result ≡ cond b 9 0
+  number_is : {b : Bool} → unpaired k ours theirs ≡ b → trial_number r.result ≡ cond b 9 0
   number_is h = ran.number ∙ ap (λ (b : Bool). cond b 9 0) h
 
   came : {b : Bool} → unpaired k ours theirs ≡ b → pair_of x ≡ ends b

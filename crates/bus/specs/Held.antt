@@ -33,7 +33,7 @@ use Rattle.bus.specs.declared.peer.Peer.{Peer}
 use Rattle.bus.specs.declared.port.Port.{Port}
 use Rattle.bus.specs.declared.trial.Unfit.{Unfit}
 use Rattle.bus.specs.View.{wire_of}
-use Rattle.bus.specs.Trial.{start_of, unpaired, number_of}
+use Rattle.bus.specs.Trial.{start_of, unpaired, trial_number}
 
 -- an end as the code holds it
 abbrev pub end_of : Peer → End
@@ -127,5 +127,5 @@ ends_of k s t events = cond (unpaired k s t) (fresh_pair s t) (pair_after s t (e
 
 -- what the run over FIFO words leaves of them
 pub record Ran (k : ℕ) (s t : Start) (events : List ℕ) (r : Result (Unit {0}) Unfit) (x : Peers) : Type 0 where
-  pub number : number_of r ≡ cond (unpaired k s t) 9 0
+  pub number : trial_number r ≡ cond (unpaired k s t) 9 0
   pub ends : pair_of x ≡ ends_of k s t events

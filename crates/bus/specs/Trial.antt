@@ -21,9 +21,9 @@ abbrev pub unpaired : ℕ → Start → Start → Bool
 unpaired k g a = unequal (element_bits g) k || unfit g a
 
 -- document 01's number: 9 where the boards do not fit
-abbrev pub number_of : Result (Unit {0}) Unfit → ℕ
-number_of (Ok x) = 0
-number_of (Err e) = 9
+abbrev pub trial_number : Result (Unit {0}) Unfit → ℕ
+trial_number (Ok x) = 0
+trial_number (Err e) = 9
 
 -- what a trial leaves: its number, both ends, and both read buffers
 pub record TrialLeft : Type 0 where
@@ -37,7 +37,7 @@ pub record TrialLeft : Type 0 where
 abbrev pub trial_left : Outcome → List ℕ → List ℕ → TrialLeft
 trial_left r gate_read antenna_read =
     record {
-      number = number_of r.result;
+      number = trial_number r.result;
       gate = state_of r.gate;
       antenna = state_of r.antenna;
       gate_read = gate_read;
@@ -66,6 +66,6 @@ pub record Tried (k : ℕ) (g a : Board) (gate_read gate_write antenna_read ante
   -- all of it is the definition's
   pub same : trial_left r gate_left antenna_left ≡ trial_of k g a gate_read gate_write antenna_read antenna_write events
   -- and where the boards fit, demand 3 holds of it
-  pub agreement : number_of r.result ≡ 0
+  pub agreement : trial_number r.result ≡ 0
       → Agreement (start_of g gate_read gate_write) (start_of a antenna_read antenna_write) (events_of events) (state_of r.gate)
       (state_of r.antenna) gate_left antenna_left

@@ -1,23 +1,26 @@
 // A FIFO of at most 16 words.
-ghost use Rattle.std.specs.Prelude.{◌<◌, ◌≤◌, ℕ, List, [], ◌∷◌, ◌++◌, ◌≡◌, length, get_or, slice_get, take};
+ghost use Rattle.std.specs.Prelude.{◌<◌, ◌≤◌, ℕ, List, [], ◌∷◌, ◌++◌, ◌-◌, ◌≡◌, length, get_or, slice_get, take, replicate};
 ghost use Rattle.agreement.specs.End.{behind};
 
 use std::marker::Model;
 
-#[derive(Drop)]
+#[derive(Clone, Copy)]
 pub struct Fifo {
-    // The first word stands at place 0. Fixed memory: as many places as the largest FIFO.
+    // The first word stands at place 0, and behind the last one zeros. Fixed memory: as many places as the largest FIFO.
     words: [u32; 16],
     count: usize,
 }
 
-// Clauses see the words queued, the first word first.
+// Clauses see the words queued, the first word first. (They give the fields back, which `Copy` needs: so the places behind them are zero.)
 impl Model for Fifo {
     ghost Value = { List ℕ };
 
     ghost view = { λ f. take f.count f.words };
 
-    ghost invariant = { λ f. f.count ≤ 16 };
+    ghost invariant = { λ f. (length (take f.count f.words) ≡ f.count)
+        × (take f.count f.words ++ replicate (16 - f.count) 0 ≡ f.words) };
+
+    ghost inverse = { λ ws. record { words = ws ++ replicate (16 - length ws) 0; count = length ws } };
 }
 
 impl Fifo {
@@ -62,7 +65,8 @@ impl Fifo {
             return None;
         }
         let first = self.words[0];
-        self.words.copy_within(1..self.count, 0);
+        self.words.copy_within(1..16, 0);
+        self.words[15] = 0;
         self.count -= 1;
         Some(first)
     }
@@ -70,6 +74,6 @@ impl Fifo {
     pub(crate) fn clear(&mut self)
         ensures { self.new ≡ [] }
     {
-        self.count = 0;
+        *self = Fifo::new();
     }
 }

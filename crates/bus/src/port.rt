@@ -25,7 +25,7 @@ impl Exponent {
     }
 }
 
-#[derive(Drop)]
+#[derive(Clone, Copy)]
 pub struct Port {
     // The words of the transmit FIFO.
     pub transmit: Fifo,

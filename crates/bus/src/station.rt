@@ -10,7 +10,7 @@ use machine::flush::Flush;
 use machine::transfer::Transfer;
 use sequences::access::Access;
 
-#[derive(Drop)]
+#[derive(Clone, Copy)]
 pub struct Station {
     pub transfer: Transfer,
     pub flush: Flush,

@@ -5,7 +5,7 @@ ghost use Rattle.words.specs.Buffer.{unpack_words};
 ghost use Rattle.words.specs.Word.{laid};
 ghost use Rattle.agreement.specs.Agreement.{seen};
 ghost use Rattle.bus.specs.View.{state_of};
-ghost use Rattle.bus.specs.Trial.{number_of, Tried};
+ghost use Rattle.bus.specs.Trial.{trial_number, Tried};
 ghost use Rattle.bus.specs.Held.{end_of, Prepared};
 
 use crate::begin::{Entrant, total_of};
@@ -23,13 +23,13 @@ use words::word::Word;
 pub struct Unfit;
 
 // What an end comes to.
-#[derive(Drop)]
+#[derive(Clone, Copy)]
 pub struct EndState {
     pub station: Station,
     pub registers: [u32; PLACES],
 }
 
-#[derive(Drop)]
+#[derive(Clone, Copy)]
 pub struct Outcome {
     pub result: Result<(), Unfit>,
     pub gate: EndState,
@@ -39,7 +39,7 @@ pub struct Outcome {
 impl Outcome {
     // Document 01's number: 0, or 9 where the boards do not fit.
     pub fn number(&self) -> u32
-        ensures { result ≡ number_of self.now.result }
+        ensures { result ≡ trial_number self.now.result }
     {
         match self.result {
             Ok(()) => 0,

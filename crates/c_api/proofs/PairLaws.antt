@@ -16,7 +16,7 @@ use Rattle.words.proofs.BufferLaws.{length_filled, laid_nothing}
 use Rattle.agreement.specs.declared.board.Board.{Board}
 use Rattle.agreement.specs.Agreement.{Seen}
 use Rattle.bus.specs.declared.trial.Outcome.{Outcome}
-use Rattle.bus.specs.Trial.{TrialLeft, trial_of, Tried, number_of}
+use Rattle.bus.specs.Trial.{TrialLeft, trial_of, Tried, trial_number}
 use Rattle.agreement.specs.End.{words_in}
 use Rattle.bus.specs.View.{queued, state_of}
 use Rattle.c_api.specs.HostBus.{head_words, commands_in, state_words, pair_words, laid_from, state_left, board_of, host_trial, of_trial, trial_by}
@@ -181,7 +181,7 @@ pub host_trial_lem : (w : Width) (o : Outcome) (gate_left antenna_left : List �
     (gate_read gate_write antenna_read antenna_write events state st : List ℕ) (n : ℕ)
     → g ≡ board_of w gate_driver inplace gate_exponent → a ≡ board_of w antenna_driver (inplace / 2) antenna_exponent
     → Tried (width_bits w) g a gate_read gate_write antenna_read antenna_write events o gate_left antenna_left
-    → n ≡ number_of o.result → st ≡ state_left (number_of o.result) (state_of o.gate) (state_of o.antenna) state
+    → n ≡ trial_number o.result → st ≡ state_left (trial_number o.result) (state_of o.gate) (state_of o.antenna) state
     → host_trial n gate_left antenna_left st
     ≡ trial_by w gate_driver antenna_driver inplace gate_exponent antenna_exponent gate_read gate_write antenna_read antenna_write events state
 host_trial_lem w o gate_left antenna_left g a gate_driver antenna_driver inplace gate_exponent antenna_exponent

@@ -9,7 +9,7 @@ ghost use Rattle.std.specs.Prelude.{◌≡◌, ◌≤◌};
 ghost use Rattle.words.specs.declared.width.Width.TheVariants.{U8, U16, U32};
 ghost use Rattle.words.specs.Word.{laid};
 ghost use Rattle.words.specs.Buffer.{filled};
-ghost use Rattle.bus.specs.Trial.{number_of};
+ghost use Rattle.bus.specs.Trial.{trial_number};
 ghost use Rattle.bus.specs.View.{wire_of, state_of};
 ghost use Rattle.c_api.specs.HostBus.{answer_number, head_words, state_words, pair_words, laid_from, state_left, board_of};
 ghost use Rattle.c_api.specs.HostBus.{host_trial, trial_by};
@@ -67,11 +67,12 @@ fn lay(words: &[u32], from: usize, state: &mut [u32])
     state[from..from + n].copy_from_slice(&words[..n]);
 }
 
-// The 30 registers of an end, from a place on.
+// The 30 registers of an end, from a place on. (A copy lies apart from `state`, as the compiler sees: else it would call `memmove`.)
 fn lay_registers(registers: &[u32; 30], from: usize, state: &mut [u32])
     ensures { state.new ≡ laid_from from (filled 0 30 registers.now) state.old }
 {
-    lay(registers, from, state);
+    let registers = *registers;
+    lay(&registers, from, state);
 }
 
 // An end's state, from a place on.
@@ -97,9 +98,9 @@ fn show(gate: &EndState, antenna: &EndState, state: &mut [u32])
 
 // The number of a trial. At 9 `state` is as found: it shows no ends.
 fn report(left: Outcome, state: &mut [u32]) -> u32
-    ensures number { result ≡ number_of left.result }
+    ensures number { result ≡ trial_number left.result }
     ensures state { state.new
-        ≡ state_left (number_of left.result) (state_of left.gate) (state_of left.antenna) state.old }
+        ≡ state_left (trial_number left.result) (state_of left.gate) (state_of left.antenna) state.old }
 {
     let Ok(()) = left.result else {
         return left.number();

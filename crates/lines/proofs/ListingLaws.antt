@@ -1,6 +1,6 @@
 -- The lines of a listing, one after the other.
 -- Assumes nothing.
-use Rattle.std.proofs.Common.{ℕ, suc, ◌+◌, ◌*◌, ◌/◌, ◌%◌, ◌<◌, ◌≤◌, ◌≡◌, List, [], ◌∷◌, ◌++◌, length, get_or, take, drop, map, refl, sym, ap, ◌∙◌, arith}
+use Rattle.std.proofs.Common.{ℕ, zero, suc, ◌+◌, ◌*◌, ◌/◌, ◌%◌, ◌<◌, ◌≤◌, ◌≡◌, List, [], ◌∷◌, ◌++◌, length, get_or, take, drop, map, refl, sym, ap, ◌∙◌, arith}
 use Rattle.std.proofs.Common.{Bool, true, false, cond, ltb, codes, lit≤, length-append, drop-cons, add-one, drop_of_length-le}
 use Rattle.std.proofs.Math.Nat.{mul-zero, mul-suc}
 use Rattle.words.specs.declared.width.Width.{Width}
@@ -38,11 +38,21 @@ length_access at value =
     two_bytes true = refl
     two_bytes false = refl
 
-pub length_accesses : (log : List ℕ) → length (access_lines log) ≤ 7 * length log
-length_accesses [] = omega arith
-length_accesses (a ∷ []) = omega arith
-length_accesses (a ∷ v ∷ log) =
-    omega (arith, length-append (access_line a v) (access_lines log), length_access a v, length_accesses log)
+pub length_accesses : (log : List ℕ) (i n : ℕ) → n ≡ 2 * i → n ≤ length log → length (access_lines (take n log)) ≡ 14 * i
+length_accesses log i zero e h = omega arith
+length_accesses [] i (suc n) e h = absurd (omega arith)
+length_accesses (a ∷ log) i (suc zero) e h = absurd (omega arith)
+length_accesses (a ∷ []) i (suc (suc n)) e h = absurd (omega arith)
+length_accesses (a ∷ v ∷ l) zero (suc (suc n)) e h = absurd (omega arith)
+length_accesses (a ∷ v ∷ l) (suc i) (suc (suc n)) e h =
+    length-append (access_line a v) (access_lines (take n l))
+    ∙ omega (arith, length_access a v, length_accesses l i n (omega arith) (omega arith))
+
+pub accesses_size : (log : List ℕ) → length (access_lines log) ≤ 7 * length log
+accesses_size [] = omega arith
+accesses_size (a ∷ []) = omega arith
+accesses_size (a ∷ v ∷ log) =
+    omega (arith, length-append (access_line a v) (access_lines log), length_access a v, accesses_size log)
 
 -- ELEMENTS
 

@@ -50,6 +50,7 @@ fn kind(register: u32) -> &'static [u8]
 }
 
 impl Cursor<'_> {
+    #[inline(always)]
     pub(crate) fn put(&mut self, text: &[u8])
         requires { self.old.at + length text.now ≤ length self.old.out.now }
         ensures { Puts self.old self.new text.now }
@@ -60,6 +61,7 @@ impl Cursor<'_> {
     }
 
     // The last `k` digits of a number, from the end on. (Of `iter_mut().rev()` the proof didn't close: it knows not what was written.)
+    #[inline(always)]
     fn digits(&mut self, base: u32, k: usize, n: u32)
         requires { (0 < base) × (base ≤ 16) × (self.old.at + k ≤ length self.old.out.now) }
         ensures { Puts self.old self.new (digits_of base k n) }
@@ -72,6 +74,7 @@ impl Cursor<'_> {
         self.at += k;
     }
 
+    #[inline(always)]
     #[tactic(auto, using(crate::proofs::WrittenLaws::length_digits))]
     fn decimal(&mut self, n: u32)
         requires { self.old.at + 5 ≤ length self.old.out.now }
@@ -81,6 +84,7 @@ impl Cursor<'_> {
         self.digits(10, places(n), n);
     }
 
+    #[inline(always)]
     fn access_line(&mut self, register: u32, value: u32)
         requires { self.old.at + 14 ≤ length self.old.out.now }
         ensures wrote { Puts self.old self.new (access_line register value) }
@@ -94,6 +98,7 @@ impl Cursor<'_> {
     }
 
     // The accesses of a log.
+    #[inline(always)]
     fn access_lines(&mut self, log: &[u32])
         requires { self.old.at + 7 * length log.now ≤ length self.old.out.now }
         ensures { Puts self.old self.new (access_lines log.now) }
@@ -106,6 +111,7 @@ impl Cursor<'_> {
     }
 
     // A read element.
+    #[inline(always)]
     fn element_line<T: Word>(&mut self, element: T)
         requires { self.old.at + width_bits T.width / 4 + 1 ≤ length self.old.out.now }
         ensures wrote { Puts self.old self.new (element_line (width_bits T.width) (T.number element)) }
@@ -115,6 +121,7 @@ impl Cursor<'_> {
         self.put(b"\n");
     }
 
+    #[inline(always)]
     fn element_lines<T: Word>(&mut self, elements: &[T])
         requires { self.old.at + (width_bits T.width / 4 + 1) * length elements.now ≤ length self.old.out.now }
         ensures { Puts self.old self.new (element_lines (width_bits T.width) (T.numbers elements.now)) }
@@ -125,6 +132,7 @@ impl Cursor<'_> {
     }
 
     // Result, accesses made, answers used.
+    #[inline(always)]
     fn result_line(&mut self, number: u32, accesses: u32, answers: u32)
         requires { self.old.at + 18 ≤ length self.old.out.now }
         ensures { Puts self.old self.new (result_line number accesses answers) }
@@ -138,6 +146,7 @@ impl Cursor<'_> {
     }
 
     // Accesses, read elements, then the result.
+    #[inline(always)]
     pub(crate) fn listing<T: Word>(&mut self, r: RunResult, log: &[u32], read: &[T])
         requires fits { Listable r log.now (length read.now) }
         requires room { self.old.at + 116626 ≤ length self.old.out.now }

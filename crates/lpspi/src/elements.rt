@@ -39,13 +39,13 @@ fn show_as<T: Word>(
     read: &mut [T],
     write: &mut [T],
 ) -> io::Result<()> {
-    let read = fill(line.read.as_slice(), read);
-    let write = fill(line.write.as_slice(), write);
+    let read = fill(line.read, read);
+    let write = fill(line.write, write);
     match call {
         Elements::Pack(order) => return pack(order, write).show(out),
         Elements::PackWords(order, total) => {
             let mut words = [0u32; ELEMENTS];
-            let words = fill(line.read.as_slice(), &mut words);
+            let words = fill(line.read, &mut words);
             pack_words(order, write, total, words);
             return print::elements(out, "read", words);
         }
@@ -53,7 +53,7 @@ fn show_as<T: Word>(
             unpack(word, order, count, read).show(out)?;
         }
         Elements::UnpackWords(order, total) => {
-            unpack_words(order, line.write.as_slice(), total, read);
+            unpack_words(order, line.write, total, read);
         }
         Elements::Longer => return print::elements(out, "longer", longer(read, write)),
         Elements::Width(count) => return show_width(out, T::width(), count),
@@ -79,9 +79,9 @@ fn transfer_as<T: Word>(
     read: &mut [T],
     write: &mut [T],
 ) -> io::Result<()> {
-    let read = fill(line.read.as_slice(), read);
-    let write = fill(line.write.as_slice(), write);
-    let (driver, budget, script) = (line.driver, line.budget, line.script.as_slice());
+    let read = fill(line.read, read);
+    let write = fill(line.write, write);
+    let (driver, budget, script) = (line.driver, line.budget, line.script);
     let r = match call {
         Transfer::ExchangeSeparate => exchange_separate(driver, read, write, budget, script, log),
         Transfer::Exchange => exchange(driver, read, budget, script, log),

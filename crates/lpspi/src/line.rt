@@ -15,8 +15,8 @@ const ANSWERS: usize = 8_000;
 // The longest log, in words: one access more than a run can make.
 pub(crate) const LOG: usize = 16_002;
 
-#[derive(Drop)]
-pub(crate) struct Line {
+#[derive(Clone, Copy)]
+pub(crate) struct Line<'a> {
     pub call: Call,
     pub driver: Lpspi,
     pub budget: usize,
@@ -24,25 +24,33 @@ pub(crate) struct Line {
     pub log: usize,
     // Whether the log is printed as it stands in memory.
     pub raw: bool,
-    pub read: List<ELEMENTS>,
-    pub write: List<ELEMENTS>,
-    pub script: List<ANSWERS>,
+    pub read: &'a [u32],
+    pub write: &'a [u32],
+    pub script: &'a [u32],
 }
 
-// The lists that a line names.
-#[derive(Default, Drop)]
+// Room for the numbers of a line. It is lent to one line after another: made for each, it would be cleared and moved each time.
+#[derive(Drop)]
+pub(crate) struct Rooms {
+    read: List<ELEMENTS>,
+    write: List<ELEMENTS>,
+    script: List<ANSWERS>,
+}
+
+// The lists that a line names; the numbers of the last three stand in their rooms.
+#[derive(Clone, Copy, Default)]
 struct Named {
     driver: Option<Lpspi>,
     budget: Option<usize>,
     log: Option<usize>,
     raw: Option<()>,
-    read: Option<List<ELEMENTS>>,
-    write: Option<List<ELEMENTS>>,
-    script: Option<List<ANSWERS>>,
+    read: Option<()>,
+    write: Option<()>,
+    script: Option<()>,
 }
 
 // A list that the line has not named before.
-fn put<T: Drop>(list: &mut Option<T>, value: T) -> Option<()> {
+fn put<T: Copy>(list: &mut Option<T>, value: T) -> Option<()> {
     if list.is_some() {
         return None;
     }
@@ -68,47 +76,54 @@ fn log(words: &mut Words) -> Option<usize> {
 }
 
 // The hexadecimal numbers that stand next, if there is room for them.
-fn numbers<const N: usize>(words: &mut Words) -> Option<List<N>> {
-    let mut list = List::new();
+fn numbers<const N: usize>(words: &mut Words, list: &mut List<N>) -> Option<()> {
+    list.clear();
     while let Some(number) = words.digits() {
         list.push(number)?;
     }
-    Some(list)
+    Some(())
 }
 
-// The elements of a call that takes such a list in a width, or takes none.
-fn elements(list: Option<List<ELEMENTS>>, width: Option<Width>) -> Option<List<ELEMENTS>> {
-    let Some(list) = list else {
-        return Some(List::new());
-    };
-    let most = u32::MAX >> (32 - width?.bits());
-    list.as_slice().iter().all(|n| *n <= most).then_some(list)
+// The numbers of a list; none where the line doesn't name it.
+fn list_of<const N: usize>(list: &List<N>, name: Option<()>) -> &[u32] {
+    match name {
+        Some(()) => list.as_slice(),
+        None => &[],
+    }
+}
+
+// Whether a call takes such a list in a width, or takes none.
+fn fits(list: &[u32], name: Option<()>, width: Option<Width>) -> bool {
+    match width {
+        Some(width) => list.iter().all(|n| *n <= u32::MAX >> (32 - width.bits())),
+        None => name.is_none(),
+    }
 }
 
 impl Named {
     // The rest of a line; nothing where it is bad.
-    fn parse(words: &mut Words) -> Option<Named> {
+    fn parse(words: &mut Words, rooms: &mut Rooms) -> Option<Named> {
         let mut lists = Named::default();
         // Each of the seven lists stands once at most, and then the line ends.
         for _ in 0..8 {
             let Some(name) = words.next() else {
                 return Some(lists);
             };
-            lists.take(name, words)?;
+            lists.take(name, words, rooms)?;
         }
         None
     }
 
     // The list of a name, of the words that stand next.
-    fn take(&mut self, name: &str, words: &mut Words) -> Option<()> {
+    fn take(&mut self, name: &str, words: &mut Words, rooms: &mut Rooms) -> Option<()> {
         match name {
             "driver" => put(&mut self.driver, driver(words)?),
             "budget" => put(&mut self.budget, words.size()?),
             "log" => put(&mut self.log, log(words)?),
             "raw" => put(&mut self.raw, ()),
-            "read" => put(&mut self.read, numbers(words)?),
-            "write" => put(&mut self.write, numbers(words)?),
-            "script" => put(&mut self.script, numbers(words)?),
+            "read" => put(&mut self.read, numbers(words, &mut rooms.read)?),
+            "write" => put(&mut self.write, numbers(words, &mut rooms.write)?),
+            "script" => put(&mut self.script, numbers(words, &mut rooms.script)?),
             _ => None,
         }
     }
@@ -123,28 +138,42 @@ impl Named {
     }
 }
 
-impl Line {
+impl Rooms {
+    pub(crate) fn new() -> Self {
+        Rooms {
+            read: List::new(),
+            write: List::new(),
+            script: List::new(),
+        }
+    }
+}
+
+impl<'a> Line<'a> {
     // Nothing where the line is bad.
-    pub(crate) fn parse(text: &str) -> Option<Self> {
+    pub(crate) fn parse(text: &str, rooms: &'a mut Rooms) -> Option<Self> {
         let (name, rest) = text.split_once(' ').unwrap_or((text, ""));
         let mut words = Words::new(rest);
         let call = Call::parse(name, &mut words)?;
-        let named = Named::parse(&mut words)?;
-        let lists = call.lists();
-        if named.has_run() && !lists.run {
+        let lists = Named::parse(&mut words, rooms)?;
+        let rooms = &*rooms;
+        let takes = call.lists();
+        let read = list_of(&rooms.read, lists.read);
+        let write = list_of(&rooms.write, lists.write);
+        let fit = fits(read, lists.read, takes.read) && fits(write, lists.write, takes.write);
+        if !fit || lists.has_run() && !takes.run {
             return None;
         }
-        let budget = named.budget.unwrap_or(8_000);
+        let budget = lists.budget.unwrap_or(8_000);
         Some(Line {
             call,
-            driver: named.driver.unwrap_or(Lpspi::new()),
+            driver: lists.driver.unwrap_or(Lpspi::new()),
             budget,
             // What the budget takes, where the line names none.
-            log: named.log.unwrap_or(2 * budget.min(8_001)),
-            raw: named.raw.is_some(),
-            read: elements(named.read, lists.read)?,
-            write: elements(named.write, lists.write)?,
-            script: named.script.unwrap_or(List::new()),
+            log: lists.log.unwrap_or(2 * budget.min(8_001)),
+            raw: lists.raw.is_some(),
+            read,
+            write,
+            script: list_of(&rooms.script, lists.script),
         })
     }
 }

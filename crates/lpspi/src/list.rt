@@ -16,6 +16,10 @@ impl<const N: usize> List<N> {
         }
     }
 
+    pub(crate) fn clear(&mut self) {
+        self.len = 0;
+    }
+
     // One more item, if there is room.
     pub(crate) fn push(&mut self, item: u32) -> Option<()>
         ensures { IfSome result (λ _. self.new.len ≡ self.old.len + 1) }

@@ -18,7 +18,7 @@ mod run;
 mod text;
 mod value;
 
-use line::Line;
+use line::{Line, Rooms};
 use names::Call;
 use std::io::Read;
 use std::{io, str};
@@ -27,8 +27,8 @@ use std::{io, str};
 const INPUT: usize = 262_144;
 
 // A line's call; nothing where the line is bad.
-fn parse(line: &[u8]) -> Option<Line> {
-    Line::parse(str::from_utf8(line).ok()?)
+fn parse<'a>(line: &[u8], rooms: &'a mut Rooms) -> Option<Line<'a>> {
+    Line::parse(str::from_utf8(line).ok()?, rooms)
 }
 
 fn make(out: &impl Print, line: &Line) -> io::Result<()> {
@@ -40,20 +40,22 @@ fn make(out: &impl Print, line: &Line) -> io::Result<()> {
 }
 
 // A line, by its number.
-fn show_line(out: &impl Print, number: u64, line: &[u8]) -> io::Result<()> {
+fn show_line(out: &impl Print, number: u64, line: &[u8], rooms: &mut Rooms) -> io::Result<()> {
     if line.is_empty() || line.starts_with(b"#") {
         out.write_all(line)?;
         return out.write_all(b"\n");
     }
-    match parse(line) {
+    match parse(line, rooms) {
         Some(line) => make(out, &line),
         None => println!(out; "bad {number}"),
     }
 }
 
 fn show_lines(out: &impl Print, input: &[u8]) -> io::Result<()> {
+    let mut rooms = Rooms::new();
     for (number, line) in (1..).zip(input.split_inclusive(|byte| *byte == b'\n')) {
-        show_line(out, number, line.strip_suffix(b"\n").unwrap_or(line))?;
+        let line = line.strip_suffix(b"\n").unwrap_or(line);
+        show_line(out, number, line, &mut rooms)?;
     }
     Ok(())
 }

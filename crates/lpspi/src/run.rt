@@ -17,7 +17,7 @@ fn enqueue(command: Command, line: &Line, log: &mut [u32]) -> RunResult {
     }
     match command.transaction() {
         Ok(t) => {
-            let script = line.script.as_slice();
+            let script = line.script;
             data::enqueue_transaction(line.driver, t, line.budget, script, log)
         }
         Err(e) => RunResult::unmoved(line.driver, Err(e.into())),
@@ -25,7 +25,7 @@ fn enqueue(command: Command, line: &Line, log: &mut [u32]) -> RunResult {
 }
 
 fn access(out: &impl Print, call: Run, line: &Line, log: &mut [u32]) -> io::Result<()> {
-    let (driver, budget, script) = (line.driver, line.budget, line.script.as_slice());
+    let (driver, budget, script) = (line.driver, line.budget, line.script);
     let r = match call {
         Run::Transfer(width, call) => {
             return elements::transfer(out, width, call, line, log);

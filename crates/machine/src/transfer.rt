@@ -192,6 +192,7 @@ impl Transfer {
     }
 
     // The access that is due.
+    #[inline(always)]
     #[tactic(auto, unfolding(crate::specs::Transfer::due_access))]
     pub fn next(self) -> Access
         ensures { result ≡ due_access self }
@@ -207,6 +208,7 @@ impl Transfer {
     }
 
     // The transfer after that access, which answered `value`.
+    #[inline(always)]
     #[tactic(auto, unfolding(crate::specs::Transfer::resumed))]
     pub fn answered(self, value: u32) -> Self
         ensures { result ≡ resumed self value }

@@ -30,7 +30,7 @@ use Rattle.machine.specs.Poll.{failed}
 use Rattle.runs.specs.declared.running.Running.{Running}
 use Rattle.runs.specs.Run.{limits, halted, ending_of, left}
 use Rattle.runs.specs.Flush.{flush_states, flush_run}
-use Rattle.runs.specs.Flushing.{first_error, Looked, FlushEnded}
+use Rattle.runs.specs.Flushing.{first_error, FlushRead, FlushEnded}
 use Rattle.runs.specs.Running.{At, Kept, Ended}
 use Rattle.runs.proofs.DriveLaws.{moved, accessed, ended_full, ended_halted}
 use Rattle.runs.proofs.WordlessLaws.{came, no_frame}
@@ -40,14 +40,14 @@ abbrev pub FlushAt : List ℕ → List ℕ → Flush → Running → Type 0
 FlushAt old olds f r = At flush_access flushed old olds Status f r
 
 -- a read, after which the flush stands at f'
-pub flush_read : (old olds : List ℕ) (f f' : Flush) (g : Register) (v : ℕ) (r s : Running) → Kept r s → Looked g r s (Some v)
+pub flush_read : (old olds : List ℕ) (f f' : Flush) (g : Register) (v : ℕ) (r s : Running) → Kept r s → FlushRead g r s (Some v)
     → flush_access f ≡ Read g → flushed f v ≡ f' → FlushAt old olds f r → FlushAt old olds f' s
 flush_read old olds f f' g v r s k x e to h =
     subst (λ (y : Flush). FlushAt old olds y s) to
     (accessed flush_access flushed old olds Status f r s (Read g) v k x.0 e (lt-leb (length r.script.now) r.spot.used x.2) h)
 
 -- the budget or the script is used up
-pub flush_stops : (old olds : List ℕ) (f : Flush) (g : Register) (r s : Running) → Kept r s → Looked g r s None
+pub flush_stops : (old olds : List ℕ) (f : Flush) (g : Register) (r s : Running) → Kept r s → FlushRead g r s None
     → flush_access f ≡ Read g → FlushAt old olds f r → FlushEnded old olds (Err Stopped) s
 flush_stops old olds f g r s k x e h = (f, by_test (leb s.budget s.spot.made) refl)
   where
@@ -113,11 +113,11 @@ pub some_left : (v : ℕ) → eqb (read_field (Fsr TXCOUNT) v) 0 ≡ false → f
 some_left v e = rw e refl
 
 -- from the read of SR to that of PARAM, and to that of FSR
-pub to_sizes : (old olds : List ℕ) (v : ℕ) (r s : Running) → Kept r s → Looked SR r s (Some v) → (failed Rx v || failed Tx v) ≡ false
+pub to_sizes : (old olds : List ℕ) (v : ℕ) (r s : Running) → Kept r s → FlushRead SR r s (Some v) → (failed Rx v || failed Tx v) ≡ false
     → eqb (read_field (Sr MBF) v) 1 ≡ false → FlushAt old olds Status r → FlushAt old olds Sizes s
 to_sizes old olds v r s k x quiet idle = flush_read old olds Status Sizes SR v r s k x refl (not_busy v quiet idle)
 
-pub to_counts : (old olds : List ℕ) (v : ℕ) (r s : Running) → Kept r s → Looked PARAM r s (Some v) → too_deep v ≡ false
+pub to_counts : (old olds : List ℕ) (v : ℕ) (r s : Running) → Kept r s → FlushRead PARAM r s (Some v) → too_deep v ≡ false
     → FlushAt old olds Sizes r → FlushAt old olds Counts s
 to_counts old olds v r s k x fits = flush_read old olds Sizes Counts PARAM v r s k x refl (not_deep v fits)
 

@@ -35,7 +35,7 @@ use Rattle.runs.specs.declared.fast.turns.Turn.{Turn}
 use Rattle.runs.specs.declared.running.Running.{Running}
 use Rattle.runs.specs.Run.{put}
 use Rattle.runs.specs.Running.{Stands, At, Kept, Accessed, Still}
-use Rattle.runs.specs.Turns.{spot, put_poll, ready_or, Whole, turn, Onward, commanded}
+use Rattle.runs.specs.Turns.{spot, put_poll, ready_or, Whole, turn, Onward, command_out}
 use Rattle.runs.proofs.DriveLaws.{stands_next, moved, accessed}
 
 length_put : (log : List ℕ) (made at v : ℕ) → length (put log made at v) ≡ length log
@@ -263,13 +263,13 @@ pub as_ready : (d : Direction) (r s : Running) (b : Bool) → b ≡ true → Who
 as_ready d r s b e h = subst (λ (x : Bool). Whole d r s (ready_or x)) e h
 
 -- what a wait came to, by the test of it
-pub uncommanded : (x : Option (Unit {0})) (t : Transfer) (b : Bool) → is_some x ≡ not b → b ≡ true → commanded x t ≡ t
+pub uncommanded : (x : Option (Unit {0})) (t : Transfer) (b : Bool) → is_some x ≡ not b → b ≡ true → command_out x t ≡ t
 uncommanded None t b e h = refl
 uncommanded (Some y) t true e h = cc
 uncommanded (Some y) t false e h = cc
 
 pub was_commanded : (x : Option (Unit {0})) (t : Transfer) (got : ℕ) (b : Bool) → is_some x ≡ not b → b ≡ false → got ≡ 0
-    → commanded x t ≡ turn_at Tx 0 got t
+    → command_out x t ≡ turn_at Tx 0 got t
 was_commanded None t got true e h z = cc
 was_commanded None t got false e h z = cc
 was_commanded (Some y) t got b e h z = ap (λ (g : ℕ). turn_at Tx 0 g t) (sym z)

@@ -19,9 +19,9 @@ abbrev pub first_error : ℕ → Ending
 first_error status = cond (failed Rx status) (Err (Driver (Fifo Rx))) (Err (Driver (Fifo Tx)))
 
 -- a read, or nothing done at the end of budget or script; as many answers are used as accesses made
-abbrev pub Looked : Register → Running → Running → Option ℕ → Type 0
-Looked g r s None = Still r s × (s.spot.used ≡ s.spot.made) × (min r.budget (length r.script.now) ≤ r.spot.made)
-Looked g r s (Some v) = Accessed (Read g) r s v × (s.spot.used ≡ s.spot.made) × (r.spot.used < length r.script.now)
+abbrev pub FlushRead : Register → Running → Running → Option ℕ → Type 0
+FlushRead g r s None = Still r s × (s.spot.used ≡ s.spot.made) × (min r.budget (length r.script.now) ≤ r.spot.made)
+FlushRead g r s (Some v) = Accessed (Read g) r s v × (s.spot.used ≡ s.spot.made) × (r.spot.used < length r.script.now)
 
 -- the run of a flush has come to its end
 abbrev pub FlushEnded : List ℕ → List ℕ → Ending → Running → Type 0

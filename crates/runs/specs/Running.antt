@@ -46,10 +46,6 @@ pub record Kept (r s : Running) : Type 0 where
   pub log : s.log.ghost_name ≡ r.log.ghost_name
   pub received_words : s.received_words.ghost_name ≡ r.received_words.ghost_name
 
--- the next answer, and the one i after it
-abbrev pub answer_in : Running → ℕ → ℕ
-answer_in r i = get_or r.script.now (r.spot.used + i) 0
-
 -- the access a was made, and the machine is told v
 pub record Accessed (a : Access) (r s : Running) (v : ℕ) : Type 0 where
   pub told : v ≡ answer_of a (get_or r.script.now r.spot.used 0)

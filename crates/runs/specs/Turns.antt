@@ -70,12 +70,12 @@ Onward p t r u s =
     → At due_access resumed old olds m (turn_at u.side u.sent s.spot.received m) s
 
 -- the waiting for a place for the command, and the command, of a transfer that stands at its start, whatever it has to send and receive
-abbrev pub commanded : Option (Unit {0}) → Transfer → Transfer
-commanded None t = t
-commanded (Some x) t = turn_at Tx 0 0 t
+abbrev pub command_out : Option (Unit {0}) → Transfer → Transfer
+command_out None t = t
+command_out (Some x) t = turn_at Tx 0 0 t
 
 abbrev pub Waited : ℕ → Running → Option (Unit {0}) → Running → Type 0
 Waited command r x s =
     (q : Sequence) (n m : ℕ) (old olds : List ℕ)
     → At due_access resumed old olds (at_start q command n m) (at_start q command n m) r
-    → At due_access resumed old olds (at_start q command n m) (commanded x (at_start q command n m)) s
+    → At due_access resumed old olds (at_start q command n m) (command_out x (at_start q command n m)) s

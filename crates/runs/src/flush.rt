@@ -11,7 +11,7 @@ ghost use Rattle.machine.specs.Flush.{flush_access, flushed};
 ghost use Rattle.machine.specs.Poll.{failed as failed_by};
 ghost use Rattle.runs.specs.Run.{left};
 ghost use Rattle.runs.specs.Flush.{flush_run};
-ghost use Rattle.runs.specs.Flushing.{first_error, Looked, FlushEnded};
+ghost use Rattle.runs.specs.Flushing.{first_error, FlushRead, FlushEnded};
 ghost use Rattle.runs.specs.Running.{Kept, At};
 
 use crate::drive::{NO_WORDS, Spot};
@@ -72,7 +72,7 @@ impl Running<'_> {
         requires reads { self.old.spot.used ≡ self.old.spot.made }
         requires end { end ≡ min self.old.budget (length self.old.script.now) }
         ensures kept { Kept self.old self.new }
-        ensures looked { Looked register self.old self.new result }
+        ensures looked { FlushRead register self.old self.new result }
     {
         if end <= self.spot.made {
             return None;

@@ -3,7 +3,9 @@ ghost use Rattle.std.specs.Prelude.{◌≡◌, ℕ, ◌%◌, ◌^◌, ◌<◌, L
 ghost use Rattle.words.specs.Width.{width_bits};
 ghost use Rattle.words.specs.declared.width.Width.{Width};
 ghost use Rattle.words.specs.declared.width.Width.TheVariants.{U8, U16, U32};
-ghost use Rattle.words.specs.Elements.{ElementLaws, number_laws};
+ghost use Rattle.std.proofs.Common.{sym};
+ghost use Rattle.std.proofs.lemmas.List.{map-id};
+ghost use Rattle.words.specs.Elements.{ElementLaws};
 
 use super::width::Width;
 
@@ -40,7 +42,7 @@ impl Word for u8 {
 
     ghost numbers = { λ xs. xs };
 
-    ghost laws = { number_laws };
+    ghost laws = { record { each = λ xs. sym (map-id xs) } };
 
     fn width() -> Width {
         Width::U8
@@ -64,7 +66,7 @@ impl Word for u16 {
 
     ghost numbers = { λ xs. xs };
 
-    ghost laws = { number_laws };
+    ghost laws = { record { each = λ xs. sym (map-id xs) } };
 
     fn width() -> Width {
         Width::U16
@@ -88,7 +90,7 @@ impl Word for u32 {
 
     ghost numbers = { λ xs. xs };
 
-    ghost laws = { number_laws };
+    ghost laws = { record { each = λ xs. sym (map-id xs) } };
 
     fn width() -> Width {
         Width::U32

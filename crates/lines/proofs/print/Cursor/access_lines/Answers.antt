@@ -2,11 +2,11 @@
 -- Assumes nothing.
 use Rattle.std.proofs.Common.{◌+◌, ◌<◌, ◌≡◌, length, refl, arith}
 use Rattle.lines.proofs.WrittenLaws.{left_start, left_step, left_end}
-use Rattle.lines.proofs.ListingLaws.{accesses_step, accesses_end, length_accesses}
+use Rattle.lines.proofs.ListingLaws.{accesses_step, accesses_end, accesses_size}
 use Rattle.lines.proofs.print.Cursor.access_lines.Goals as goal
 
 pub loop-register-init : goal.loop-register-init
-loop-register-init c = left_start _ _ (omega (arith, length_accesses c.args.log.now, c.requires))
+loop-register-init c = left_start _ _ (omega (arith, accesses_size c.args.log.now, c.requires))
 
 pub loop-register-preserved : goal.loop-register-preserved
 loop-register-preserved c =
