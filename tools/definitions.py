@@ -3,7 +3,8 @@
 # reading order (the libraries of crates.txt, lowest first; in each the order of specs/Lib.antt).
 #   tools/definitions.py              a line a file: its lines, how many definitions public contracts reach, and which only private ones do
 #   tools/definitions.py bus c_api    only what the public functions of these crates reach
-# Last come the values that public types show in contracts, which stand in src/: of a type its `impl Model`, of a trait its ghost members.
+# Last come the values that public types show in contracts, which stand in src/: of a type its `impl Model`, of a trait its ghost members and
+# those of its impls.
 # It goes by names and `use` lines. It fails where a public function has no `ensures` or has a `requires`.
 import os
 import re
@@ -90,6 +91,8 @@ def values(path):
     for m in re.finditer(r'(?ms)^pub trait (\w+)\b.*?^}', text):
         if re.search(r'(?m)^ +ghost ', m.group()):
             yield m.group(1), m.group().count('\n') + 1
+            for n in re.finditer(rf'(?ms)^impl {m.group(1)} for (\w+) .*?^}}', text):
+                yield f'{m.group(1)} for {n.group(1)}', n.group().count('\n') + 1
 
 
 def sources(crate):

@@ -38,6 +38,7 @@ length_access at value =
     two_bytes true = refl
     two_bytes false = refl
 
+-- exactly so long, of the pairs at the front (stated for a reader; the code goes by the bound behind it)
 pub length_accesses : (log : List ℕ) (i n : ℕ) → n ≡ 2 * i → n ≤ length log → length (access_lines (take n log)) ≡ 14 * i
 length_accesses log i zero e h = omega arith
 length_accesses [] i (suc n) e h = absurd (omega arith)
