@@ -49,6 +49,7 @@ fn kind(register: u32) -> &'static [u8]
     if register < 0x1000 { b"R " } else { b"W " }
 }
 
+// Every method is laid into the listing, which keeps both fields in registers: behind a call they are loaded anew for each byte.
 impl Cursor<'_> {
     #[inline(always)]
     pub(crate) fn put(&mut self, text: &[u8])

@@ -191,7 +191,7 @@ impl Transfer {
         }
     }
 
-    // The access that is due.
+    // The access that is due. (This and `answered` are laid into the loop of a run: a call would copy the whole transfer for each access.)
     #[inline(always)]
     #[tactic(auto, unfolding(crate::specs::Transfer::due_access))]
     pub fn next(self) -> Access
